@@ -1,0 +1,5 @@
+-- Laws about the definitions of `text`, for the proofs of this crate and of the crates above it.
+pub mod Choice
+pub mod Table
+pub mod FeedLaws
+pub mod Utf8Laws

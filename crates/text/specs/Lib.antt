@@ -1,0 +1,4 @@
+-- The definitions that the contracts of `text` cite: the switches of an edition, bytes, UTF-8.
+pub mod Switches
+pub mod Bytes
+pub mod Utf8
