@@ -1,6 +1,6 @@
-// The class of a byte.
+// The class of a byte, and its value as a digit.
 ghost use mathlib.Core.Path.{_≡_};
-ghost use Rattle.text.specs.Bytes.{classOf, classNumber};
+ghost use Rattle.text.specs.Bytes.{classOf, classNumber, digitValue};
 
 // The class of each of the 256 bytes, by number: space 0, digit 1, capital 2, small letter 3, joiner 4, quote 5, tick 6, mark 7,
 // slash 8, plus 9, other 10. Letters, digits and joiners, the bytes of a word, are 1 to 4.
@@ -267,4 +267,29 @@ pub fn class_of(b: u8) -> u8
     ensures { λ r. ⌜ r ≡ classNumber (classOf b) ⌝ }
 {
     CLASS[b as usize]
+}
+
+// The value of a digit in a base up to 16, hex digits in either case; 16 for any other byte.
+pub fn digit_value(b: u8) -> u8
+    ensures { λ r. ⌜ r ≡ digitValue b ⌝ }
+{
+    if b < 48 {
+        return 16;
+    }
+    if b <= 57 {
+        return b - 48;
+    }
+    if b < 65 {
+        return 16;
+    }
+    if b <= 70 {
+        return b - 65 + 10;
+    }
+    if b < 97 {
+        return 16;
+    }
+    if b <= 102 {
+        return b - 97 + 10;
+    }
+    16
 }

@@ -1,0 +1,1 @@
+-- Laws about the definitions of `literals`, for the proofs of this crate and of the crates above it.
