@@ -9,7 +9,7 @@
                                       as `@loop .i` by `c .before .before .loop .i`. Keep IN: after an edit of the code
                                       only the paths change, and another `expand` mends them
 
-  proof.py fill NAME FN ANSWERS       make FN's Proof.antt anew from its skeleton and a small file of answers, so that an
+  proof.py fill NAME FN [ANSWERS]     make FN's Proof.antt anew from its skeleton and a small file of answers, so that an
                                       edit of the code costs a run of this and not a rewrite. FN is the folder below
                                       proofs/, as `scan/find`, or `+ping+pong` for a cycle of calls. ANSWERS has lines
                                         use ..            an import that the answers need
@@ -20,7 +20,7 @@
                                                           definitions
                                       A need without a line gets `search needs` or `omega arith`.
 
-What `paths`, `expand` and `fill` read is made by `rt dev NAME --generated`, in a folder outside the repository.
+ANSWERS is crates/NAME/answers/FN where it is left out. What `paths`, `expand` and `fill` read is made by `rt dev NAME --generated`, in a folder outside the repository.
 W=N in the environment cuts printed lines at N characters (900).
 """
 import glob
@@ -60,6 +60,7 @@ def dev(name, extra):
             os.makedirs(os.path.dirname(path), exist_ok=True)
             with open(path, 'w') as out:
                 out.write('\n'.join(body).rstrip() + '\n')
+            store_skeleton(path, '\n'.join(body).rstrip() + '\n')
             kept.append('WROTE ' + path)
     in_note = in_computed = False
     for line in kept:
@@ -88,10 +89,18 @@ def dev(name, extra):
 made = {}
 
 
-def generated(name):
-    if name in made:
+def newest(name):
+    """when the crate's code was last edited"""
+    return max(os.path.getmtime(f) for f in glob.glob('crates/%s/src/**/*.rt' % name, recursive=True))
+
+
+def generated(name, anew=False):
+    if name in made and not anew:
         return made[name]
-    folder = os.path.join(tempfile.gettempdir(), 'rattle-needs-%d' % os.getuid(), name)
+    folder = os.path.join(tempfile.gettempdir(), 'rattle-needs-%d' % os.getuid(), os.getcwd().strip('/').replace('/', '-'), name)
+    if not anew and os.path.exists(folder) and os.path.getmtime(folder) > newest(name):
+        made[name] = folder
+        return folder
     os.makedirs(os.path.dirname(folder), exist_ok=True)
     run('rm', '-rf', folder)
     run('rt', 'dev', name, '--generated', folder)
@@ -101,9 +110,12 @@ def generated(name):
 
 def needs_of(name, fn):
     """need -> list of (thing, its fields, its path), nearest first"""
-    base = os.path.join(generated(name), 'Rattle.%s.proofs' % name, 'proofs')
-    files = (glob.glob(os.path.join(base, '**', fn, 'Lts.antt'), recursive=True)
-             or glob.glob(os.path.join(base, '**', 'Lts-%s.antt' % fn), recursive=True))
+    for anew in (False, True):
+        base = os.path.join(generated(name, anew), 'Rattle.%s.proofs' % name, 'proofs')
+        files = (glob.glob(os.path.join(base, '**', fn, 'Lts.antt'), recursive=True)
+                 or glob.glob(os.path.join(base, '**', 'Lts-%s.antt' % fn), recursive=True))
+        if files:
+            break
     if not files:
         sys.exit('nothing was made for %s: is it covered, and do its callees have proofs?' % fn)
     text = open(files[0]).read()
@@ -169,6 +181,9 @@ def expanded(name, fn, text):
 
 def skeleton(name, fn, path):
     """what `rt dev` prints for the function while it has no file"""
+    store = os.path.join('target', 'skeletons', name, fn)
+    if os.path.exists(store) and os.path.getmtime(store) > newest(name):
+        return open(store).read()
     kept = open(path).read() if os.path.exists(path) else None
     if kept is not None:
         os.remove(path)
@@ -182,7 +197,18 @@ def skeleton(name, fn, path):
     found = re.search(r'help: write \S*/proofs/%s/Proof.antt with these lines.*\n((?:(?:    .*)?\n)+)' % re.escape(fn), printed)
     if not found:
         sys.exit('no skeleton was printed for %s: is it proved without a file, or is a callee of it not proved?' % fn)
-    return re.sub(r'^    ', '', found.group(1), flags=re.M).rstrip() + '\n'
+    text = re.sub(r'^    ', '', found.group(1), flags=re.M).rstrip() + '\n'
+    store_skeleton(path, text)
+    return text
+
+
+def store_skeleton(path, text):
+    """keeps what was printed for the function of this Proof.antt, so that another `fill` need not ask again"""
+    found = re.search(r'crates/(\w+)/proofs/(.+)/Proof.antt$', path)
+    store = os.path.join('target', 'skeletons', found.group(1), found.group(2))
+    os.makedirs(os.path.dirname(store), exist_ok=True)
+    with open(store, 'w') as f:
+        f.write(text)
 
 
 def named_calls(text, member):
@@ -267,6 +293,8 @@ def main(words):
         expand(*words[1:])
     elif len(words) == 4 and words[0] == 'fill':
         fill(*words[1:])
+    elif len(words) == 3 and words[0] == 'fill':
+        fill(words[1], words[2], os.path.join('crates', words[1], 'answers', words[2]))
     else:
         sys.exit(__doc__)
 

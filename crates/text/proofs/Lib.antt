@@ -1,5 +1,6 @@
 -- Laws about the definitions of `text`, for the proofs of this crate and of the crates above it.
 pub mod Choice
 pub mod Table
+pub mod ClassLaws
 pub mod FeedLaws
 pub mod Utf8Laws

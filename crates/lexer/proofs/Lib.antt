@@ -1,0 +1,3 @@
+-- The laws of the lexer's definitions, for the proofs of this crate and of the crates above it.
+pub mod ClosingLaws
+pub mod RunLaws
