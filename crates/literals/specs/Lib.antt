@@ -2,3 +2,4 @@
 pub mod Number
 pub mod Content
 pub mod Word
+pub mod Internal

@@ -1,6 +1,18 @@
 // Numbers: a machine over the bytes of a number token, and what the token means at its end.
 ghost use mathlib.Core.Path.{_≡_};
-ghost use Rattle.literals.specs.Number.{number};
+ghost use Prim.Native.Nat.{_<_, _+_, _*_};
+ghost use lib.IntN.{pos, negℤ, _+ℤ_};
+ghost use Rattle.text.specs.Bytes.{digitValue};
+ghost use Rattle.literals.specs.Number.{isE, isOneToNine, baseOf, numberStep, signedBy, asInteger, asDecimal, meaning, number};
+ghost use Rattle.literals.specs.Internal.{cap, capped, placesOf};
+use text::bytes::digit_value;
+
+// The greatest integer, and the greatest m of a decimal.
+const MOST: u64 = 9223372036854775807;
+
+// The digits so far and the exponent are kept exact up to this. Above it a number is refused, whatever follows: it is above MOST,
+// and above every count of fraction digits by more than 400.
+const CAP: u64 = 10000000000000000000;
 
 // Where a number stands, named by its last byte, with what has been read: whether a sign (signed) and a minus, the whole number
 // m of all digits so far, the count of fraction digits (places), the exponent's minus and its value. Zero is a 0 as the whole
@@ -88,4 +100,532 @@ pub enum Meaning {
     Decimal { minus: bool, m: u64, p: i64 },
     Malformed,
     TooWide,
+}
+
+// m with one more digit, exact up to the cap.
+fn and_digit(base: u64, m: u64, d: u64) -> u64
+    requires { ⌜ 0 < base ⌝ }
+    requires { ⌜ d < 256 ⌝ }
+    ensures { λ r. ⌜ r ≡ cap (m * base + d) ⌝ }
+{
+    if CAP / base < m {
+        return CAP;
+    }
+    let n = m * base + d;
+    if CAP < n {
+        return CAP;
+    }
+    n
+}
+
+// The value of a digit in a base up to 16, or 16, as wide as what it is added to.
+fn digit_of(b: u8) -> u64
+    ensures { λ r. ⌜ r ≡ digitValue b ⌝ }
+    ensures { λ r. ⌜ r < 256 ⌝ }
+{
+    digit_value(b) as u64
+}
+
+fn is_e(b: u8) -> bool
+    ensures { λ r. ⌜ r ≡ isE b ⌝ }
+{
+    if b == 101 {
+        return true;
+    }
+    b == 69
+}
+
+fn is_one_to_nine(b: u8) -> bool
+    ensures { λ r. ⌜ r ≡ isOneToNine b ⌝ }
+{
+    if b < 49 {
+        return false;
+    }
+    b <= 57
+}
+
+// The base that a letter after a first 0 names, or 0.
+fn base_of(b: u8) -> u64
+    ensures { λ r. ⌜ r ≡ baseOf b ⌝ }
+{
+    if b == 120 {
+        return 16;
+    }
+    if b == 111 {
+        return 8;
+    }
+    if b == 98 {
+        return 2;
+    }
+    0
+}
+
+// The machine's step, one function for each state that goes on. Each contract says that the answer is the definition's next state
+// up to the cap.
+fn start_step(b: u8) -> Number
+    ensures { λ r. ⌜ capped r ≡ capped (numberStep Number.Start b) ⌝ }
+{
+    if b == 43 {
+        return Number::Sign { minus: false };
+    }
+    if b == 45 {
+        return Number::Sign { minus: true };
+    }
+    if b == 48 {
+        return Number::Zero {
+            signed: false,
+            minus: false,
+        };
+    }
+    if is_one_to_nine(b) {
+        return Number::Digit {
+            minus: false,
+            m: digit_of(b),
+        };
+    }
+    Number::Bad
+}
+
+fn sign_step(minus: bool, b: u8) -> Number
+    ensures { λ r. ⌜ capped r ≡ capped (numberStep (Number.Sign minus) b) ⌝ }
+{
+    if b == 48 {
+        return Number::Zero {
+            signed: true,
+            minus,
+        };
+    }
+    if is_one_to_nine(b) {
+        return Number::Digit {
+            minus,
+            m: digit_of(b),
+        };
+    }
+    Number::Bad
+}
+
+fn zero_step(signed: bool, minus: bool, b: u8) -> Number
+    ensures { λ r. ⌜ capped r ≡ capped (numberStep (Number.Zero signed minus) b) ⌝ }
+{
+    if b == 46 {
+        return Number::Dot { minus, m: 0 };
+    }
+    if is_e(b) {
+        return Number::Mark {
+            minus,
+            m: 0,
+            places: 0,
+        };
+    }
+    if signed {
+        return Number::Bad;
+    }
+    let base = base_of(b);
+    if 0 < base {
+        return Number::Prefix { base };
+    }
+    Number::Bad
+}
+
+fn digit_step(minus: bool, m: u64, b: u8) -> Number
+    ensures { λ r. ⌜ capped r ≡ capped (numberStep (Number.Digit minus m) b) ⌝ }
+{
+    let d = digit_of(b);
+    if d < 10 {
+        return Number::Digit {
+            minus,
+            m: and_digit(10, m, d),
+        };
+    }
+    if b == 95 {
+        return Number::Gap { minus, m };
+    }
+    if b == 46 {
+        return Number::Dot { minus, m };
+    }
+    if is_e(b) {
+        return Number::Mark {
+            minus,
+            m,
+            places: 0,
+        };
+    }
+    Number::Bad
+}
+
+fn gap_step(minus: bool, m: u64, b: u8) -> Number
+    ensures { λ r. ⌜ capped r ≡ capped (numberStep (Number.Gap minus m) b) ⌝ }
+{
+    let d = digit_of(b);
+    if d < 10 {
+        return Number::Digit {
+            minus,
+            m: and_digit(10, m, d),
+        };
+    }
+    Number::Bad
+}
+
+fn dot_step(minus: bool, m: u64, b: u8) -> Number
+    ensures { λ r. ⌜ capped r ≡ capped (numberStep (Number.Dot minus m) b) ⌝ }
+{
+    let d = digit_of(b);
+    if d < 10 {
+        return Number::Fraction {
+            minus,
+            m: and_digit(10, m, d),
+            places: 1,
+        };
+    }
+    Number::Bad
+}
+
+fn prefix_step(base: u64, b: u8) -> Number
+    ensures { λ r. ⌜ capped r ≡ capped (numberStep (Number.Prefix base) b) ⌝ }
+{
+    let d = digit_of(b);
+    if d < base {
+        return Number::Based { base, m: d };
+    }
+    Number::Bad
+}
+
+fn based_step(base: u64, m: u64, b: u8) -> Number
+    ensures { λ r. ⌜ capped r ≡ capped (numberStep (Number.Based base m) b) ⌝ }
+{
+    let d = digit_of(b);
+    if d < base {
+        return Number::Based {
+            base,
+            m: and_digit(base, m, d),
+        };
+    }
+    if b == 95 {
+        return Number::BasedGap { base, m };
+    }
+    Number::Bad
+}
+
+fn based_gap_step(base: u64, m: u64, b: u8) -> Number
+    ensures { λ r. ⌜ capped r ≡ capped (numberStep (Number.BasedGap base m) b) ⌝ }
+{
+    let d = digit_of(b);
+    if d < base {
+        return Number::Based {
+            base,
+            m: and_digit(base, m, d),
+        };
+    }
+    Number::Bad
+}
+
+fn fraction_step(minus: bool, m: u64, places: u64, b: u8) -> Number
+    requires { ⌜ places < 18446744073709551615 ⌝ }
+    ensures { λ r. ⌜ capped r ≡ capped (numberStep (Number.Fraction minus m places) b) ⌝ }
+{
+    let d = digit_of(b);
+    if d < 10 {
+        return Number::Fraction {
+            minus,
+            m: and_digit(10, m, d),
+            places: places + 1,
+        };
+    }
+    if b == 95 {
+        return Number::FractionGap { minus, m, places };
+    }
+    if is_e(b) {
+        return Number::Mark { minus, m, places };
+    }
+    Number::Bad
+}
+
+fn fraction_gap_step(minus: bool, m: u64, places: u64, b: u8) -> Number
+    requires { ⌜ places < 18446744073709551615 ⌝ }
+    ensures { λ r. ⌜ capped r ≡ capped (numberStep (Number.FractionGap minus m places) b) ⌝ }
+{
+    let d = digit_of(b);
+    if d < 10 {
+        return Number::Fraction {
+            minus,
+            m: and_digit(10, m, d),
+            places: places + 1,
+        };
+    }
+    Number::Bad
+}
+
+fn mark_step(minus: bool, m: u64, places: u64, b: u8) -> Number
+    ensures { λ r. ⌜ capped r ≡ capped (numberStep (Number.Mark minus m places) b) ⌝ }
+{
+    if b == 43 {
+        return Number::ExpSign {
+            minus,
+            m,
+            places,
+            below: false,
+        };
+    }
+    if b == 45 {
+        return Number::ExpSign {
+            minus,
+            m,
+            places,
+            below: true,
+        };
+    }
+    if b == 48 {
+        return Number::ExpZero {
+            minus,
+            m,
+            places,
+            below: false,
+        };
+    }
+    if is_one_to_nine(b) {
+        return Number::ExpDigit {
+            minus,
+            m,
+            places,
+            below: false,
+            exp: digit_of(b),
+        };
+    }
+    Number::Bad
+}
+
+fn exp_sign_step(minus: bool, m: u64, places: u64, below: bool, b: u8) -> Number
+    ensures { λ r. ⌜ capped r ≡ capped (numberStep (Number.ExpSign minus m places below) b) ⌝ }
+{
+    if b == 48 {
+        return Number::ExpZero {
+            minus,
+            m,
+            places,
+            below,
+        };
+    }
+    if is_one_to_nine(b) {
+        return Number::ExpDigit {
+            minus,
+            m,
+            places,
+            below,
+            exp: digit_of(b),
+        };
+    }
+    Number::Bad
+}
+
+fn exp_digit_step(minus: bool, m: u64, places: u64, below: bool, exp: u64, b: u8) -> Number
+    ensures { λ r. ⌜ capped r ≡ capped (numberStep (Number.ExpDigit minus m places below exp) b) ⌝ }
+{
+    let d = digit_of(b);
+    if d < 10 {
+        return Number::ExpDigit {
+            minus,
+            m,
+            places,
+            below,
+            exp: and_digit(10, exp, d),
+        };
+    }
+    if b == 95 {
+        return Number::ExpGap {
+            minus,
+            m,
+            places,
+            below,
+            exp,
+        };
+    }
+    Number::Bad
+}
+
+fn exp_gap_step(minus: bool, m: u64, places: u64, below: bool, exp: u64, b: u8) -> Number
+    ensures { λ r. ⌜ capped r ≡ capped (numberStep (Number.ExpGap minus m places below exp) b) ⌝ }
+{
+    let d = digit_of(b);
+    if d < 10 {
+        return Number::ExpDigit {
+            minus,
+            m,
+            places,
+            below,
+            exp: and_digit(10, exp, d),
+        };
+    }
+    Number::Bad
+}
+
+// The machine after one byte more.
+fn number_step(n: Number, b: u8) -> Number
+    requires { ⌜ placesOf n < 18446744073709551615 ⌝ }
+    ensures { λ r. ⌜ capped r ≡ capped (numberStep n b) ⌝ }
+{
+    match n {
+        Number::Start => start_step(b),
+        Number::Bad => Number::Bad,
+        Number::Sign { minus } => sign_step(minus, b),
+        Number::Zero { signed, minus } => zero_step(signed, minus, b),
+        Number::Digit { minus, m } => digit_step(minus, m, b),
+        Number::Gap { minus, m } => gap_step(minus, m, b),
+        Number::Dot { minus, m } => dot_step(minus, m, b),
+        Number::Prefix { base } => prefix_step(base, b),
+        Number::Based { base, m } => based_step(base, m, b),
+        Number::BasedGap { base, m } => based_gap_step(base, m, b),
+        Number::Fraction { minus, m, places } => fraction_step(minus, m, places, b),
+        Number::FractionGap { minus, m, places } => fraction_gap_step(minus, m, places, b),
+        Number::Mark { minus, m, places } => mark_step(minus, m, places, b),
+        Number::ExpSign {
+            minus,
+            m,
+            places,
+            below,
+        } => exp_sign_step(minus, m, places, below, b),
+        Number::ExpZero {
+            minus: _,
+            m: _,
+            places: _,
+            below: _,
+        } => Number::Bad,
+        Number::ExpDigit {
+            minus,
+            m,
+            places,
+            below,
+            exp,
+        } => exp_digit_step(minus, m, places, below, exp, b),
+        Number::ExpGap {
+            minus,
+            m,
+            places,
+            below,
+            exp,
+        } => exp_gap_step(minus, m, places, below, exp, b),
+    }
+}
+
+// An integer's meaning. Its lowest is one below the negative of MOST, so the sign is taken from m - 1, which fits.
+fn as_integer(minus: bool, m: u64) -> Meaning
+    ensures { λ r. ⌜ r ≡ asInteger minus m ⌝ }
+{
+    if minus {
+        if MOST + 1 < m {
+            return Meaning::TooWide;
+        }
+        if m == 0 {
+            return Meaning::Integer(0);
+        }
+        let k = (m - 1) as i64;
+        return Meaning::Integer(-1 - k);
+    }
+    if MOST < m {
+        return Meaning::TooWide;
+    }
+    Meaning::Integer(m as i64)
+}
+
+// A decimal's meaning with the power n, or -n where it is below 0.
+fn as_decimal(minus: bool, m: u64, below: bool, n: u64) -> Meaning
+    ensures { λ r. ⌜ r ≡ asDecimal minus m (signedBy below n) ⌝ }
+{
+    if MOST < m {
+        return Meaning::TooWide;
+    }
+    if 400 < n {
+        return Meaning::TooWide;
+    }
+    let p = n as i64;
+    if below {
+        return Meaning::Decimal { minus, m, p: 0 - p };
+    }
+    Meaning::Decimal { minus, m, p }
+}
+
+// A decimal's meaning with an exponent.
+fn with_exponent(minus: bool, m: u64, places: u64, below: bool, exp: u64) -> Meaning
+    ensures { λ r. ⌜ r ≡ asDecimal minus m (signedBy below exp +ℤ negℤ (pos places)) ⌝ }
+{
+    if below {
+        if 400 < exp {
+            return Meaning::TooWide;
+        }
+        if 400 < places {
+            return Meaning::TooWide;
+        }
+        return as_decimal(minus, m, true, exp + places);
+    }
+    if exp < places {
+        return as_decimal(minus, m, true, places - exp);
+    }
+    as_decimal(minus, m, false, exp - places)
+}
+
+// What the machine means where it stops.
+fn meaning_of(n: Number) -> Meaning
+    ensures { λ r. ⌜ r ≡ meaning n ⌝ }
+{
+    match n {
+        Number::Start => Meaning::Malformed,
+        Number::Bad => Meaning::Malformed,
+        Number::Sign { minus: _ } => Meaning::Malformed,
+        Number::Zero { signed: _, minus } => as_integer(minus, 0),
+        Number::Digit { minus, m } => as_integer(minus, m),
+        Number::Gap { minus: _, m: _ } => Meaning::Malformed,
+        Number::Dot { minus: _, m: _ } => Meaning::Malformed,
+        Number::Prefix { base: _ } => Meaning::Malformed,
+        Number::Based { base: _, m } => as_integer(false, m),
+        Number::BasedGap { base: _, m: _ } => Meaning::Malformed,
+        Number::Fraction { minus, m, places } => as_decimal(minus, m, true, places),
+        Number::FractionGap {
+            minus: _,
+            m: _,
+            places: _,
+        } => Meaning::Malformed,
+        Number::Mark {
+            minus: _,
+            m: _,
+            places: _,
+        } => Meaning::Malformed,
+        Number::ExpSign {
+            minus: _,
+            m: _,
+            places: _,
+            below: _,
+        } => Meaning::Malformed,
+        Number::ExpZero {
+            minus,
+            m,
+            places,
+            below: _,
+        } => as_decimal(minus, m, true, places),
+        Number::ExpDigit {
+            minus,
+            m,
+            places,
+            below,
+            exp,
+        } => with_exponent(minus, m, places, below, exp),
+        Number::ExpGap {
+            minus: _,
+            m: _,
+            places: _,
+            below: _,
+            exp: _,
+        } => Meaning::Malformed,
+    }
+}
+
+// What a number token means.
+pub fn number_of(token: &[u8]) -> Meaning
+    ensures { λ r. ⌜ r ≡ number (now (token .entry)) ⌝ }
+{
+    let mut n = Number::Start;
+    let mut i = 0;
+    while i < token.len() {
+        n = number_step(n, token[i]);
+        i += 1;
+    }
+    meaning_of(n)
 }

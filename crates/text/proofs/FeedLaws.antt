@@ -3,6 +3,7 @@
 use mathlib.Core.Path.{_≡_, refl, ap, _∙_}
 use Prim.Native.Nat.{ℕ, suc, _+_, _≤_, _<_}
 use native.Mathlib.Numerals.{add-one}
+use native.Mathlib.Omega.{arith}
 use mathlib.Core.List.{List, [], _∷_, _++_}
 use lib.ListN.{length, drop, getD, drop-of-length-le}
 use lib.Seq.{drop-cons}
@@ -36,3 +37,10 @@ module _ {S : Type 0} (step : S → ℕ → S) where
   unfolding feed
   feed-append s [] b = refl
   feed-append s (x ∷ a) b = feed-append (step s x) a b
+
+-- a machine that counts at most one for each byte counts at most the bytes
+pub feed-le : {A : Type 0} (count : A → ℕ) (step : A → ℕ → A) → ((st : A) (b : ℕ) → count (step st b) ≤ suc (count st))
+    → (st : A) (s : List ℕ) → count (feed step st s) ≤ count st + length s
+unfolding feed
+feed-le count step one st [] = omega arith
+feed-le count step one st (b ∷ s) = let h = feed-le count step one (step st b) s in omega (arith, one st b)

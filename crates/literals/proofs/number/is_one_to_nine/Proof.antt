@@ -1,0 +1,18 @@
+use borrow.Author.Needs.{needs}
+use native.Mathlib.Omega.{arith}
+use borrow.Author.Tests.{le-leb, lt-leb}
+use Rattle.literals.proofs.number.is_one_to_nine.Statement.{statement}
+use Rattle.literals.proofs.number.is_one_to_nine.Tie as tie
+use Rattle.literals.proofs.number.is_one_to_nine.Reads as reads
+use Rattle.literals.proofs.number.is_one_to_nine.Lts as lts
+
+-- src/number.rt:142:9
+returns : tie.Need-returns
+returns c = rw (lt-leb 49 _ (c .if1 .taken))
+
+-- src/number.rt:138:1
+returns-2 : tie.Need-returns-2
+returns-2 c = rw (le-leb 49 _ (c .if1 .left))
+
+pub is-one-to-nine-spec : {M : Type 1} → statement M
+is-one-to-nine-spec = tie.close (tie.spec returns returns-2)

@@ -1,0 +1,72 @@
+use borrow.Author.Needs.{needs}
+use native.Mathlib.Omega.{arith}
+use mathlib.Core.Path.{_≡_, refl, sym, ap, _∙_}
+use Prim.Native.Nat.{_≤_, _-_}
+use lib.ListN.{length, drop, getD}
+use Rattle.text.specs.Bytes.{feed}
+use Rattle.text.proofs.FeedLaws.{feed-done}
+use Rattle.literals.specs.declared.number.Number.the-variants.{Start}
+use Rattle.literals.specs.Number.{numberStep, number}
+use Rattle.literals.specs.Internal.{capped, placesOf}
+use Rattle.literals.proofs.NumberLaws.{same-turn, few-turn, same-meaning}
+use Rattle.literals.proofs.number.number_of.Statement.{statement}
+use Rattle.literals.proofs.number.number_of.Tie as tie
+use Rattle.literals.proofs.number.number_of.Reads as reads
+use Rattle.literals.proofs.number.number_of.Lts as lts
+use Rattle.literals.proofs.number.meaning_of.Reads as meaning-of-reads
+use Rattle.literals.proofs.number.number_step.Reads as number-step-reads
+
+abbrev Inv-loop : tie.InvT-loop
+Inv-loop token n₀ i₀ n i = (i ≤ length token) × (placesOf n ≤ i) × (capped (feed numberStep Start token) ≡ capped (feed numberStep n (drop i token)))
+
+abbrev μ-loop : tie.MeasureT-loop
+μ-loop token n₀ i₀ n i = length token - i
+
+-- src/number.rt:626:5
+loop-holds : tie.Need-loop-holds Inv-loop μ-loop
+unfolding placesOf
+loop-holds c = (omega arith, omega arith, refl)
+
+-- src/number.rt:627:28
+shared-slice-read-number-step : tie.Need-shared-slice-read-number-step Inv-loop μ-loop
+shared-slice-read-number-step c = search needs
+
+-- src/number.rt:627:9
+number-step-requires : tie.Need-number-step-requires Inv-loop μ-loop
+number-step-requires c κs = omega arith
+
+-- src/number.rt:628:9
+add-i : tie.Need-add-i Inv-loop μ-loop
+add-i c = omega arith
+
+-- src/number.rt:626:5
+loop-less : tie.Need-loop-less Inv-loop μ-loop
+loop-less c = omega arith
+
+-- src/number.rt:626:5
+loop-again : tie.Need-loop-again Inv-loop μ-loop
+loop-again c = (omega arith, few-turn (c .before .before .before .loop .n) (c .number-step .result) (getD (c .before .before .before .before .before .args .token .now) (c .before .before .before .loop .i) 0) (c .before .before .before .loop .i) (c .number-step .ensures) (c .before .before .before .loop .inv .1), c .before .before .before .loop .inv .2 ∙ same-turn (c .before .before .before .loop .n) (c .number-step .result) (c .before .before .before .before .before .args .token .now) (c .before .before .before .loop .i) (omega arith) (c .number-step .ensures))
+
+-- src/number.rt:630:5
+meaning-of-requires : tie.Need-meaning-of-requires Inv-loop μ-loop
+meaning-of-requires c κs = search needs
+
+-- src/number.rt:621:1
+returns : tie.Need-returns Inv-loop μ-loop
+unfolding number
+returns c = c .meaning-of .ensures ∙ sym (same-meaning (feed numberStep Start (c .before .before .before .before .args .token .now)) (c .before .before .loop .n) (c .before .before .loop .inv .2 ∙ ap capped (feed-done numberStep (c .before .before .loop .n) (c .before .before .before .before .args .token .now) (c .before .before .loop .i) (omega arith))) (omega arith))
+
+pub number-of-spec : {M : Type 1} → statement M
+number-of-spec =
+    tie.close
+    (tie.spec
+    Inv-loop
+    μ-loop
+    loop-holds
+    shared-slice-read-number-step
+    number-step-requires
+    add-i
+    loop-less
+    loop-again
+    meaning-of-requires
+    returns)

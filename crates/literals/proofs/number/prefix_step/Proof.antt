@@ -1,0 +1,28 @@
+use native.Mathlib.Omega.{arith}
+use borrow.Author.Tests.{lt-ltb, le-ltb}
+use Rattle.text.specs.Bytes.{digitValue}
+use Rattle.literals.specs.Number.{numberStep}
+use Rattle.literals.specs.Internal.{capped}
+use borrow.Author.Needs.{needs}
+use Rattle.literals.proofs.number.prefix_step.Statement.{statement}
+use Rattle.literals.proofs.number.prefix_step.Tie as tie
+use Rattle.literals.proofs.number.prefix_step.Reads as reads
+use Rattle.literals.proofs.number.prefix_step.Lts as lts
+use Rattle.literals.proofs.number.digit_of.Reads as digit-of-reads
+
+-- src/number.rt:286:9
+digit-of-requires : tie.Need-digit-of-requires
+digit-of-requires c κs = search needs
+
+-- src/number.rt:288:9
+returns : tie.Need-returns
+unfolding numberStep capped
+returns c = rw (lt-ltb (digitValue (c .before .before .args .b)) (c .before .before .args .base) (omega arith), c .before .digit-of .ensures .0)
+
+-- src/number.rt:283:1
+returns-2 : tie.Need-returns-2
+unfolding numberStep capped
+returns-2 c = rw (le-ltb (digitValue (c .before .before .args .b)) (c .before .before .args .base) (omega arith))
+
+pub prefix-step-spec : {M : Type 1} → statement M
+prefix-step-spec = tie.close (tie.spec digit-of-requires returns returns-2)
