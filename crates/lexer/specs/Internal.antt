@@ -2,6 +2,8 @@
 -- Assumes nothing.
 use Prim.Native.Nat.{ℕ, _+_}
 use mathlib.Core.Bool.{Bool, true, false}
+use mathlib.Core.List.{List}
+use mathlib.Core.Option.{Option, none, some}
 use Rattle.text.specs.Bytes.{isWordByte, isNumberByte, is}
 use Rattle.lexer.specs.declared.closing.Closing.{Closing}
 use Rattle.lexer.specs.declared.closing.Closing.the-variants as C
@@ -9,7 +11,11 @@ use Rattle.lexer.specs.declared.closing.Block.{Block}
 use Rattle.lexer.specs.declared.closing.Block.the-variants as B
 use Rattle.lexer.specs.declared.runs.Run.{Run}
 use Rattle.lexer.specs.declared.runs.Run.the-variants as R
+use Rattle.lexer.specs.declared.item.Found.{Found}
+use Rattle.lexer.specs.declared.item.Found.the-variants as F
 use Rattle.lexer.specs.Closing.{notNewline}
+use Rattle.lexer.specs.Token.{stringForm}
+use Rattle.lexer.specs.Answer.{kindOf}
 
 -- what the machine has counted
 unfoldable pub closingRead : Closing → ℕ
@@ -40,3 +46,8 @@ passes R.Word b = isWordByte b
 passes R.Number b = isNumberByte b
 passes R.Line b = notNewline b
 passes R.Hash b = is "#" b
+
+-- a string token that ends before `end`, by its content
+unfoldable pub stringFound : (isText : Bool) (end : ℕ) → Option (List ℕ) → Found
+stringFound isText end none = F.Fault 4
+stringFound isText end (some content) = F.Token (kindOf (stringForm isText content)) end

@@ -1,3 +1,9 @@
 -- Laws about the definitions of `literals`, for the proofs of this crate and of the crates above it.
 pub mod NumberLaws
 pub mod Signed
+pub mod DecoderLaws
+pub mod FewLaws
+pub mod StepLaws
+pub mod TallyLaws
+pub mod FillLaws
+pub mod CursorLaws

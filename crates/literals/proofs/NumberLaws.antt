@@ -17,7 +17,7 @@ use Rattle.literals.specs.declared.number.Number.{Number}
 use Rattle.literals.specs.declared.number.Number.the-variants.{Start, Bad, Sign, Zero, Digit, Gap, Dot, Prefix, Based, BasedGap, Fraction, FractionGap, Mark, ExpSign, ExpZero, ExpDigit, ExpGap}
 use Rattle.literals.specs.declared.number.Meaning.the-variants.{Decimal, TooWide}
 use Rattle.literals.specs.Number.{numberStep, signedBy, asInteger, asDecimal, meaning}
-use Rattle.literals.specs.Internal.{cap, capped, placesOf}
+use Rattle.literals.specs.InternalNumber.{cap, capped, placesOf}
 
 -- ---- the cap
 

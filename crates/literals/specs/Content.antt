@@ -1,5 +1,5 @@
 -- The content of strings and keys (document 01, "Values", "Strings"): a function of what stands between the quotes; none is refusal 4.
--- The decoder's states are the code's own enum, src/content.rt; here their numbers are unbounded.
+-- The decoder's states are the code's own enum, src/decoder.rt; here their numbers are unbounded.
 -- Assumes nothing.
 use Prim.Native.Nat.{ℕ, zero, suc, _+_, _-_, _*_, _/_, _%_}
 use Prim.Native.Char.{code}
@@ -13,11 +13,11 @@ use Rattle.text.specs.declared.utf8.Few.{Few}
 use Rattle.text.specs.declared.utf8.Few.the-variants.{Zero, One}
 use Rattle.text.specs.Bytes.{is, within, isSpace, isCapital, isSmall, isDigit, isDigitIn, digitValue, sameBytes}
 use Rattle.text.specs.Utf8.{isUtf8, isScalar, encode, listed}
-use Rattle.literals.specs.declared.content.Body.{Body}
-use Rattle.literals.specs.declared.content.Body.the-variants.{Quoted, Raw, Base64, Word}
-use Rattle.literals.specs.declared.content.Decoder.{Decoder}
-use Rattle.literals.specs.declared.content.Decoder.the-variants.{Plain, Escape, Hex, Verbatim, Letters, Digits, Pads, Bad}
-use Rattle.literals.specs.declared.content.Decoded.{Decoded}
+use Rattle.literals.specs.declared.decoder.Body.{Body}
+use Rattle.literals.specs.declared.decoder.Body.the-variants.{Quoted, Raw, Base64, Word}
+use Rattle.literals.specs.declared.decoder.Decoder.{Decoder}
+use Rattle.literals.specs.declared.decoder.Decoder.the-variants.{Plain, Escape, Hex, Verbatim, Letters, Digits, Pads, Bad}
+use Rattle.literals.specs.declared.decoder.Decoded.{Decoded}
 use Rattle.literals.specs.declared.content.Measure.{Measure}
 use Rattle.literals.specs.declared.content.Measure.the-variants as M
 use Rattle.literals.specs.declared.content.Written.{Written}

@@ -1,36 +1,22 @@
-// The content of strings and keys: a decoder that is fed the bytes between the quotes one by one and gives the content's bytes.
+// The content of strings and keys: how long it is, and the content itself. A body is measured before it is written, so that a
+// content that has no room, or none at all, leaves the output as it was.
 ghost use mathlib.Core.Path.{_≡_};
-ghost use Rattle.literals.specs.Content.{content};
+ghost use lib.ListN.{length};
+ghost use Rattle.literals.specs.Content.{content, contentOf, measured, fitted, placed};
+ghost use Rattle.literals.specs.InternalContent.{HasRoom};
+use crate::decoder::Body;
+use crate::decoder::Decoded;
+use crate::decoder::Decoder;
+use crate::decoder::decode_step;
+use crate::decoder::may_end;
+use crate::decoder::start_of;
+use crate::few::feed_text;
+use crate::few::few_len;
+use crate::few::is_whole;
+use crate::few::put_few;
+use text::switches::Switches;
 use text::utf8::Few;
-
-// What stands between the quotes, or a word: how its bytes are to be decoded.
-pub enum Body {
-    Quoted,
-    Raw,
-    Base64,
-    Word,
-}
-
-// Where the decoder stands. Plain, Escape, Hex: in a quoted body, between characters, after a backslash, and in `\x` (byte) or
-// `\u`, `\U`, with the value v so far and `left` digits due after the next one. Verbatim: in a raw body. Letters: in a word.
-// Digits, Pads: in a base64 body, the count of digits being q modulo 4 and `rest` the bits that no byte has been given of yet;
-// after a pad, when `left` more may follow. Bad: no content.
-pub enum Decoder {
-    Plain,
-    Escape,
-    Hex { byte: bool, left: usize, v: u32 },
-    Verbatim,
-    Letters,
-    Digits { q: u8, rest: u8 },
-    Pads { left: u8 },
-    Bad,
-}
-
-// The decoder after a byte, and the bytes of content that are known with it.
-pub struct Decoded {
-    pub state: Decoder,
-    pub out: Few,
-}
+use text::utf8::Utf8;
 
 // How long a body's content is, or that it has none.
 pub enum Measure {
@@ -43,4 +29,66 @@ pub enum Written {
     Bytes(usize),
     Refused,
     NoRoom,
+}
+
+// The length of a body's content. A text's must be UTF-8: the machine that judges it is fed along.
+pub fn measure_content(sw: Switches, text: bool, body: Body, s: &[u8]) -> Measure
+    ensures { λ r. ⌜ r ≡ measured (contentOf sw text body (now (s .entry))) ⌝ }
+{
+    let mut st = start_of(body);
+    let mut u = Utf8::Whole(0);
+    let mut n = 0;
+    let mut i = 0;
+    while i < s.len() {
+        let d = decode_step(sw, st, s[i]);
+        let out = d.out;
+        st = d.state;
+        n += few_len(out);
+        u = feed_text(text, u, out);
+        i += 1;
+    }
+    if may_end(st) {
+        if text {
+            if is_whole(u) {
+                return Measure::Length(n);
+            }
+            return Measure::Refused;
+        }
+        return Measure::Length(n);
+    }
+    Measure::Refused
+}
+
+// Writes a body's content, which has been measured, at the output's front.
+fn fill_front(sw: Switches, body: Body, s: &[u8], out: &mut [u8])
+    requires { ⌜ HasRoom (content sw body (now s)) (length (now out)) ⌝ }
+    ensures { λ _. ⌜ now (out .exit) ≡ placed (content sw body (now (s .entry))) (now (out .entry)) ⌝ }
+{
+    let mut st = start_of(body);
+    let mut k = 0;
+    let mut i = 0;
+    while i < s.len() {
+        let d = decode_step(sw, st, s[i]);
+        let few = d.out;
+        st = d.state;
+        put_few(out, k, few);
+        k += few_len(few);
+        i += 1;
+    }
+}
+
+// Writes a body's content at the output's front, if it has one and the output has room for it.
+pub fn write_content(sw: Switches, text: bool, body: Body, s: &[u8], out: &mut [u8]) -> Written
+    ensures { λ r. ⌜ (r ≡ fitted (length (now (out .entry))) (contentOf sw text body (now (s .entry)))) × (now (out .exit) ≡ placed (contentOf sw text body (now (s .entry))) (now (out .entry))) ⌝ }
+{
+    match measure_content(sw, text, body, s) {
+        Measure::Refused => Written::Refused,
+        Measure::Length(n) => {
+            if out.len() < n {
+                return Written::NoRoom;
+            }
+            fill_front(sw, body, s, out);
+            Written::Bytes(n)
+        }
+    }
 }

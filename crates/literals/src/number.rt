@@ -4,7 +4,7 @@ ghost use Prim.Native.Nat.{_<_, _+_, _*_};
 ghost use lib.IntN.{pos, negℤ, _+ℤ_};
 ghost use Rattle.text.specs.Bytes.{digitValue};
 ghost use Rattle.literals.specs.Number.{isE, isOneToNine, baseOf, numberStep, signedBy, asInteger, asDecimal, meaning, number};
-ghost use Rattle.literals.specs.Internal.{cap, capped, placesOf};
+ghost use Rattle.literals.specs.InternalNumber.{cap, capped, placesOf};
 use text::bytes::digit_value;
 
 // The greatest integer, and the greatest m of a decimal.

@@ -9,8 +9,6 @@ use Rattle.lexer.proofs.closing.after_other.Reads as reads
 use Rattle.lexer.proofs.closing.after_other.Lts as lts
 use Rattle.lexer.proofs.closing.after_quote.Reads as after-quote-reads
 
-
-
 -- src/closing.rt:40:43
 add-after-quote : tie.Need-add-after-quote
 add-after-quote c = omega arith

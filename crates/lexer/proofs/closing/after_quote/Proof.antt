@@ -7,8 +7,6 @@ use Rattle.lexer.proofs.closing.after_quote.Tie as tie
 use Rattle.lexer.proofs.closing.after_quote.Reads as reads
 use Rattle.lexer.proofs.closing.after_quote.Lts as lts
 
-
-
 -- src/closing.rt:29:9
 returns : tie.Need-returns
 unfolding afterQuote

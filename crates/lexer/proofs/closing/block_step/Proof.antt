@@ -9,8 +9,6 @@ use Rattle.lexer.proofs.closing.block_step.Tie as tie
 use Rattle.lexer.proofs.closing.block_step.Reads as reads
 use Rattle.lexer.proofs.closing.block_step.Lts as lts
 
-
-
 -- src/closing.rt:100:23
 enum-known-c : tie.Need-enum-known-c
 enum-known-c c = search needs

@@ -12,8 +12,6 @@ use Rattle.lexer.proofs.closing.closing_step.Lts as lts
 use Rattle.lexer.proofs.closing.after_other.Reads as after-other-reads
 use Rattle.lexer.proofs.closing.after_quote.Reads as after-quote-reads
 
-
-
 -- src/closing.rt:56:25
 enum-known-c : tie.Need-enum-known-c
 enum-known-c c = search needs

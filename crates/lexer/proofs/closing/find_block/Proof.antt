@@ -15,8 +15,6 @@ use Rattle.lexer.proofs.closing.find_block.Lts as lts
 use Rattle.lexer.proofs.closing.block_step.Reads as block-step-reads
 use Rattle.lexer.proofs.closing.is_shut.Reads as is-shut-reads
 
-
-
 abbrev Inv-loop : tie.InvT-loop
 Inv-loop text from c₀ i₀ c i = (from ≤ i) × (blockRead c + from ≤ i) × (block (drop from text) ≡ feed blockStep c (drop i text))
 

@@ -15,8 +15,6 @@ use Rattle.lexer.proofs.closing.find_closing.Lts as lts
 use Rattle.lexer.proofs.closing.closing_step.Reads as closing-step-reads
 use Rattle.lexer.proofs.closing.is_closed.Reads as is-closed-reads
 
-
-
 abbrev Inv-loop : tie.InvT-loop
 Inv-loop text from escapes k c₀ i₀ c i = (from ≤ i) × (closingRead c + 2 * from ≤ 2 * i) × (closing escapes k (drop from text) ≡ feed (closingStep escapes k) c (drop i text))
 

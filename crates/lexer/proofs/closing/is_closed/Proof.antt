@@ -7,8 +7,6 @@ use Rattle.lexer.proofs.closing.is_closed.Tie as tie
 use Rattle.lexer.proofs.closing.is_closed.Reads as reads
 use Rattle.lexer.proofs.closing.is_closed.Lts as lts
 
-
-
 -- src/closing.rt:72:31
 enum-told : tie.Need-enum-told
 enum-told c = search needs

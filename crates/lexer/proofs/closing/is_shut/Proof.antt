@@ -7,8 +7,6 @@ use Rattle.lexer.proofs.closing.is_shut.Tie as tie
 use Rattle.lexer.proofs.closing.is_shut.Reads as reads
 use Rattle.lexer.proofs.closing.is_shut.Lts as lts
 
-
-
 -- src/closing.rt:123:29
 enum-told : tie.Need-enum-told
 enum-told c = search needs

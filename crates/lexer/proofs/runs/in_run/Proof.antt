@@ -11,8 +11,6 @@ use Rattle.lexer.proofs.runs.in_run.Reads as reads
 use Rattle.lexer.proofs.runs.in_run.Lts as lts
 use Rattle.lexer.proofs.runs.is_word_byte.Reads as is-word-byte-reads
 
-
-
 -- src/runs.rt:30:22
 enum-told : tie.Need-enum-told
 enum-told c = search needs

@@ -9,8 +9,6 @@ use Rattle.lexer.proofs.runs.is_word_byte.Reads as reads
 use Rattle.lexer.proofs.runs.is_word_byte.Lts as lts
 use Rattle.text.proofs.bytes.class_of.Reads as class-of-reads
 
-
-
 -- src/runs.rt:19:9
 class-of-requires : tie.Need-class-of-requires
 class-of-requires c κs = search needs

@@ -12,8 +12,6 @@ use Rattle.lexer.proofs.runs.run_end.Reads as reads
 use Rattle.lexer.proofs.runs.run_end.Lts as lts
 use Rattle.lexer.proofs.runs.in_run.Reads as in-run-reads
 
-
-
 abbrev Inv-loop : tie.InvT-loop
 Inv-loop text from run i₀ i = (i ≤ length text) × (from + front (passes run) (drop from text) ≡ i + front (passes run) (drop i text))
 

@@ -1,7 +1,7 @@
 use native.Mathlib.Omega.{arith}
 use borrow.Author.Tests.{eq-eqb, ne-eqb}
 use Rattle.literals.specs.Number.{numberStep}
-use Rattle.literals.specs.Internal.{capped}
+use Rattle.literals.specs.InternalNumber.{capped}
 use borrow.Author.Needs.{needs}
 use Rattle.literals.proofs.number.exp_sign_step.Statement.{statement}
 use Rattle.literals.proofs.number.exp_sign_step.Tie as tie

@@ -2,7 +2,7 @@ use native.Mathlib.Omega.{arith}
 use borrow.Author.Tests.{lt-ltb, le-ltb}
 use Rattle.text.specs.Bytes.{digitValue}
 use Rattle.literals.specs.Number.{numberStep}
-use Rattle.literals.specs.Internal.{capped}
+use Rattle.literals.specs.InternalNumber.{capped}
 use Rattle.literals.proofs.NumberLaws.{cap-cap}
 use native.Mathlib.Numerals.{add-one}
 use borrow.Author.Needs.{needs}

@@ -7,7 +7,7 @@ use Rattle.text.specs.Bytes.{feed}
 use Rattle.text.proofs.FeedLaws.{feed-done}
 use Rattle.literals.specs.declared.number.Number.the-variants.{Start}
 use Rattle.literals.specs.Number.{numberStep, number}
-use Rattle.literals.specs.Internal.{capped, placesOf}
+use Rattle.literals.specs.InternalNumber.{capped, placesOf}
 use Rattle.literals.proofs.NumberLaws.{same-turn, few-turn, same-meaning}
 use Rattle.literals.proofs.number.number_of.Statement.{statement}
 use Rattle.literals.proofs.number.number_of.Tie as tie

@@ -1,6 +1,6 @@
 use native.Mathlib.Omega.{arith}
 use Rattle.literals.specs.Number.{numberStep}
-use Rattle.literals.specs.Internal.{placesOf}
+use Rattle.literals.specs.InternalNumber.{placesOf}
 use borrow.Author.Needs.{needs}
 use Rattle.literals.proofs.number.number_step.Statement.{statement}
 use Rattle.literals.proofs.number.number_step.Tie as tie

@@ -1,0 +1,35 @@
+use native.Mathlib.Omega.{arith}
+use mathlib.Core.Path.{_∙_}
+use Rattle.literals.specs.Content.{hexDigit}
+use Rattle.literals.proofs.DecoderLaws.{hex-more}
+use borrow.Author.Needs.{needs}
+use Rattle.literals.proofs.decoder.hex_digit.Statement.{statement}
+use Rattle.literals.proofs.decoder.hex_digit.Tie as tie
+use Rattle.literals.proofs.decoder.hex_digit.Reads as reads
+use Rattle.literals.proofs.decoder.hex_digit.Lts as lts
+use Rattle.literals.proofs.decoder.hex_done.Reads as hex-done-reads
+use Rattle.literals.proofs.decoder.silent.Reads as silent-reads
+
+-- src/decoder.rt:210:9
+hex-done-requires : tie.Need-hex-done-requires
+hex-done-requires c κs = rw (c .if1 .taken) at (c .before .pre)
+
+-- src/decoder.rt:210:9
+returns : tie.Need-returns
+unfolding hexDigit
+returns c = rw (c .before .if1 .taken) (c .hex-done .ensures)
+
+-- src/decoder.rt:212:39
+sub-t5 : tie.Need-sub-t5
+sub-t5 c = omega arith
+
+-- src/decoder.rt:212:5
+silent-requires : tie.Need-silent-requires
+silent-requires c κs = search needs
+
+-- src/decoder.rt:205:1
+returns-2 : tie.Need-returns-2
+returns-2 c = c .silent .ensures ∙ hex-more _ _ _ (omega arith)
+
+pub hex-digit-spec : {M : Type 1} → statement M
+hex-digit-spec = tie.close (tie.spec hex-done-requires returns sub-t5 silent-requires returns-2)

@@ -1,0 +1,53 @@
+use borrow.Author.Tests.{eq-eqb, ne-eqb}
+use Rattle.literals.specs.Content.{plainStep}
+use borrow.Author.Needs.{needs}
+use Rattle.literals.proofs.decoder.plain_step.Statement.{statement}
+use Rattle.literals.proofs.decoder.plain_step.Tie as tie
+use Rattle.literals.proofs.decoder.plain_step.Reads as reads
+use Rattle.literals.proofs.decoder.plain_step.Lts as lts
+use Rattle.literals.proofs.decoder.quoted_refuses.Reads as quoted-refuses-reads
+use Rattle.literals.proofs.decoder.silent.Reads as silent-reads
+use Rattle.literals.proofs.decoder.single.Reads as single-reads
+
+-- src/decoder.rt:115:9
+silent-requires : tie.Need-silent-requires
+silent-requires c κs = search needs
+
+-- src/decoder.rt:115:9
+returns : tie.Need-returns
+unfolding plainStep
+returns c = rw (eq-eqb _ _ (c .before .if1 .taken)) (c .silent .ensures)
+
+-- src/decoder.rt:117:8
+quoted-refuses-requires : tie.Need-quoted-refuses-requires
+quoted-refuses-requires c κs = search needs
+
+-- src/decoder.rt:118:9
+silent-requires-2 : tie.Need-silent-requires-2
+silent-requires-2 c κs = search needs
+
+-- src/decoder.rt:118:9
+returns-2 : tie.Need-returns-2
+unfolding plainStep
+returns-2 c = rw (ne-eqb _ _ (c .before .before .before .if1 .left), ← c .before .before .quoted-refuses .ensures, c .before .if2 .taken) (c .silent2 .ensures)
+
+-- src/decoder.rt:120:5
+single-requires : tie.Need-single-requires
+single-requires c κs = search needs
+
+-- src/decoder.rt:111:1
+returns-3 : tie.Need-returns-3
+unfolding plainStep
+returns-3 c = rw (ne-eqb _ _ (c .before .before .before .if1 .left), ← c .before .before .quoted-refuses .ensures, c .before .if2 .left) (c .single .ensures)
+
+pub plain-step-spec : {M : Type 1} → statement M
+plain-step-spec =
+    tie.close
+    (tie.spec
+    silent-requires
+    returns
+    quoted-refuses-requires
+    silent-requires-2
+    returns-2
+    single-requires
+    returns-3)

@@ -1,0 +1,73 @@
+-- What only the contracts inside the crate cite, of contents: nothing here must be believed by a reader.
+-- Assumes nothing.
+use Prim.Native.Nat.{ℕ, zero, suc, _+_, _-_, _*_, _/_, _<_, _≤_}
+use mathlib.Core.Path.{_≡_}
+use mathlib.Core.Bool.{Bool, cond}
+use mathlib.Core.Option.{Option, none, some}
+use mathlib.Core.List.{List, [], _∷_}
+use lib.ListN.{length, drop}
+use Rattle.text.specs.declared.switches.Switches.{Switches}
+use Rattle.text.specs.declared.utf8.Few.{Few}
+use Rattle.text.specs.Utf8.{listed}
+use Rattle.literals.specs.declared.decoder.Decoder.{Decoder}
+use Rattle.literals.specs.declared.decoder.Decoder.the-variants.{Plain, Escape, Hex, Verbatim, Letters, Digits, Pads, Bad}
+use Rattle.literals.specs.declared.compare.Cursor.{Cursor}
+use Rattle.literals.specs.declared.compare.Piece.{Piece}
+use Rattle.literals.specs.declared.compare.Piece.the-variants as P
+use Rattle.literals.specs.Content.{prepend, decoded}
+
+-- an escape's value so far is below this, where `left` digits are due after the next one: then a byte, or 32 bits, hold it at the end
+unfoldable pub hexRoom : (byte : Bool) (left : ℕ) → ℕ
+hexRoom byte zero = cond byte 0x10 0x10000000
+hexRoom byte (suc left) = hexRoom byte left / 16
+
+-- the bits that no byte has been given of yet are below this, after q digits modulo 4
+unfoldable pub bitRoom : (q : ℕ) → ℕ
+bitRoom zero = 1
+bitRoom (suc zero) = 64
+bitRoom (suc (suc zero)) = 16
+bitRoom (suc (suc (suc zero))) = 4
+bitRoom (suc (suc (suc (suc q)))) = 0
+
+-- the decoder's numbers have room for what is due
+unfoldable pub Sound : Decoder → Type 0
+Sound Plain = Unit {0}
+Sound Escape = Unit {0}
+Sound (Hex byte left v) = v < hexRoom byte left
+Sound Verbatim = Unit {0}
+Sound Letters = Unit {0}
+Sound (Digits q rest) = rest < bitRoom q
+Sound (Pads left) = Unit {0}
+Sound Bad = Unit {0}
+
+-- there is a content, and room for it
+unfoldable pub HasRoom : Option (List ℕ) → (room : ℕ) → Type 0
+HasRoom none room = ⊥
+HasRoom (some bytes) room = length bytes ≤ room
+
+-- ---- cursors
+
+abbrev pub cursorAt : ℕ → Decoder → Few → Cursor
+cursorAt place state out = record { place = place; state = state; out = out }
+
+-- the content from a cursor on
+unfoldable pub rest : Switches → List ℕ → Cursor → Option (List ℕ)
+rest sw s c = prepend (listed (c .out)) (decoded sw (c .state) (drop (c .place) s))
+
+-- goes down with every byte that is asked for
+unfoldable pub weight : List ℕ → Cursor → ℕ
+weight s c = 5 * (length s - c .place) + length (listed (c .out))
+
+-- the byte b, and then the content from the cursor k on
+pub record Step (sw : Switches) (s : List ℕ) (c : Cursor) (b : ℕ) (k : Cursor) : Type 0 where
+  pub is : rest sw s c ≡ prepend (b ∷ []) (rest sw s k)
+  pub sound : Sound (k .state)
+  pub less : weight s k < weight s c
+
+abbrev pub PieceIs : Switches → List ℕ → Cursor → Piece → Type 0
+PieceIs sw s c (P.Byte b k) = Step sw s c b k
+PieceIs sw s c P.End = rest sw s c ≡ some []
+PieceIs sw s c P.Bad = rest sw s c ≡ none
+
+pub record Pieced (sw : Switches) (s : List ℕ) (c : Cursor) (r : Piece) : Type 0 where
+  pub is : PieceIs sw s c r
