@@ -8,8 +8,6 @@ use Rattle.lexer.proofs.item.content_item.Reads as reads
 use Rattle.lexer.proofs.item.content_item.Lts as lts
 use Rattle.literals.proofs.content.measure_content.Reads as measure-content-reads
 
-
-
 -- src/item.rt:137:45
 sub-measure-content : tie.Need-sub-measure-content
 sub-measure-content c = omega arith

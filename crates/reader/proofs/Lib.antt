@@ -1,0 +1,5 @@
+-- The laws of the reader's definitions.
+pub mod RunLaws
+pub mod SpanLaws
+pub mod SizeLaws
+pub mod Viable

@@ -1,0 +1,3 @@
+-- What only the contracts of this crate's inner functions cite. Nothing below has to be believed: the public contracts don't name it.
+pub mod Tokens
+pub mod Values

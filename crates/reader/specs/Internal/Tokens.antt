@@ -1,0 +1,64 @@
+-- Tokens and what they begin, as the code knows them.
+-- Assumes nothing.
+use Prim.Native.Nat.{ℕ, suc, _-_, _≤_, _<_}
+use mathlib.Core.Path.{_≡_}
+use mathlib.Core.List.{List}
+use lib.ListN.{length, getD}
+use lib.IntN.{ℤ, pos, negsuc}
+use lib.Signed.{leZ}
+use mathlib.Core.Bool.{true}
+use Rattle.text.specs.declared.switches.Switches.{Switches}
+use Rattle.lexer.specs.declared.item.TokenKind.{TokenKind}
+use Rattle.lexer.specs.Token as L
+use Rattle.lexer.specs.Token.{Form, Item, Token, itemAt}
+use Rattle.lexer.specs.Answer.{kindOf}
+use Rattle.reader.specs.declared.tree.Leaf.{Leaf}
+use Rattle.reader.specs.declared.tree.Begin.{Begin}
+use Rattle.reader.specs.declared.tree.Begin.the-variants as B
+use Rattle.reader.specs.Tree.{Span, Scalar, scalarNumber, scalarWords}
+use Rattle.reader.specs.Syntax.{begins, container, scalar, identifier, nothing, spanOf}
+
+-- the form of the token at a place; a mark 0 where no token is
+unfoldable pub formOf : Item → Form
+formOf (L.gap more) = L.mark 0
+formOf (L.token form more) = form
+formOf (L.fault number) = L.mark 0
+
+unfoldable pub formAt : Switches → List ℕ → ℕ → Form
+formAt sw s at = formOf (itemAt sw s at)
+
+-- the token from `start` to `stop`
+abbrev pub tokenAt : Switches → List ℕ → (start stop : ℕ) → Token
+tokenAt sw s start stop = record { form = formAt sw s start; start = start; stop = stop }
+
+-- a token of the kind k stands from `start` to `stop`
+pub record TokenAt (sw : Switches) (s : List ℕ) (k : TokenKind) (start stop : ℕ) : Type 0 where
+  pub item : itemAt sw s start ≡ L.token (formAt sw s start) (stop - suc start)
+  pub kind : kindOf (formAt sw s start) ≡ k
+  pub ordered : start < stop
+  pub inside : stop ≤ length s
+
+-- a scalar's own words, as the code carries them
+unfoldable pub leafOf : Scalar → Leaf
+leafOf s = record { kind = scalarNumber s; a = getD (scalarWords s) 0 0; b = getD (scalarWords s) 1 0; c = getD (scalarWords s) 2 0 }
+
+pub record LeafIs (sw : Switches) (s : List ℕ) (start stop : ℕ) (leaf : Leaf) : Type 0 where
+  pub value : Scalar
+  pub is : begins (spanOf (tokenAt sw s start stop)) (formAt sw s start) ≡ scalar value
+  pub words : leaf ≡ leafOf value
+
+-- what the token from `start` to `stop` begins
+abbrev pub BeginIs : Switches → List ℕ → (start stop : ℕ) → Begin → Type 0
+BeginIs sw s start stop (B.Container kind) = begins (spanOf (tokenAt sw s start stop)) (formAt sw s start) ≡ container kind
+BeginIs sw s start stop (B.Scalar leaf) = LeafIs sw s start stop leaf
+BeginIs sw s start stop B.Identifier = begins (spanOf (tokenAt sw s start stop)) (formAt sw s start) ≡ identifier
+BeginIs sw s start stop B.Nothing = begins (spanOf (tokenAt sw s start stop)) (formAt sw s start) ≡ nothing
+
+pub record Begun (sw : Switches) (s : List ℕ) (start stop : ℕ) (r : Begin) : Type 0 where
+  pub is : BeginIs sw s start stop r
+
+-- what a decimal token's numbers keep to
+pub record DecimalFits (m : ℕ) (p : ℤ) : Type 0 where
+  pub most : m ≤ 9223372036854775807
+  pub least : leZ (negsuc 399) p ≡ true
+  pub greatest : leZ p (pos 400) ≡ true

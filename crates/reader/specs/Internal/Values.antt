@@ -1,0 +1,3 @@
+-- What the readers of values do.
+-- Assumes nothing.
+use Prim.Native.Nat.{ℕ}
