@@ -113,7 +113,7 @@ module _ (escapes : Bool) (k : ℕ) where
       let g = subst (Held k) e (feed-held (C.Inside 0) s tt) in
       (g, omega arith)
 
-  closed-step : (c : Closing) → isClosed c ≡ true → (b : ℕ) → closingStep escapes k c b ≡ c
+  pub closed-step : (c : Closing) → isClosed c ≡ true → (b : ℕ) → closingStep escapes k c b ≡ c
   unfolding closingStep isClosed
   closed-step (C.Inside n) e b = absurd (false≢true e)
   closed-step (C.Escaped n) e b = absurd (false≢true e)
@@ -145,7 +145,7 @@ pub shut-le : (s : List ℕ) (n : ℕ) → block s ≡ B.Closed n → n ≤ leng
 unfolding blockRead
 shut-le s n e = let h = block-le s in let f = ap blockRead e in omega arith
 
-shut-step : (c : Block) → isShut c ≡ true → (b : ℕ) → blockStep c b ≡ c
+pub shut-step : (c : Block) → isShut c ≡ true → (b : ℕ) → blockStep c b ≡ c
 unfolding blockStep isShut
 shut-step (B.Inside n) e b = absurd (false≢true e)
 shut-step (B.Starred n) e b = absurd (false≢true e)

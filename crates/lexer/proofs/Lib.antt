@@ -4,3 +4,5 @@ pub mod RunLaws
 pub mod TokenLaws
 pub mod PlaceLaws
 pub mod NextLaws
+pub mod LocalLaws
+pub mod AloneLaws

@@ -3,13 +3,13 @@
 -- Assumes nothing.
 use mathlib.Core.Path.{_≡_, refl, sym, ap, _∙_, subst}
 use Prim.Native.Nat.{ℕ, zero, suc, _+_, _-_, _≤_, _<_}
-use native.Mathlib.Nat.{suc-add, add-suc}
+use native.Mathlib.Nat.{suc-add, add-suc, le-refl}
 use native.Mathlib.Omega.{arith}
 use mathlib.Core.Bool.{Bool, true, false, cond}
 use mathlib.Core.List.{List, [], _∷_}
 use lib.Dec.{ltb}
-use lib.ListN.{length, drop, length-drop, drop-of-length-le}
-use lib.Seq.{drop-drop}
+use lib.ListN.{length, drop, getD, length-drop, drop-of-length-le}
+use lib.Seq.{drop-drop, getD-drop}
 use borrow.Author.Tests.{ltb-true, ltb-false}
 use Rattle.text.specs.declared.switches.Switches.{Switches}
 use Rattle.lexer.specs.declared.item.TokenKind.{TokenKind}
@@ -97,9 +97,11 @@ module _ (sw : Switches) (s : List ℕ) (at : ℕ) where
 
 -- ---- the next token, and the tokens from its end
 
--- after the bytes s from the place `at` on, what follows a first token is the tokens from its end
+-- of the bytes s from the place `at` on, a first token is the item at its start, and the tokens from its end follow it
 unfoldable Follows : Switches → (at : ℕ) (s : List ℕ) → Tokens → Type 0
-Follows sw at s (next t ts) = (at < t .stop) × (ts ≡ cut sw 0 (t .stop) (drop (t .stop - at) s))
+Follows sw at s (next t ts) =
+    (at < t .stop) × (ts ≡ cut sw 0 (t .stop) (drop (t .stop - at) s)) × (at ≤ t .start)
+    × (item sw (getD s (t .start - at) 0) (drop (suc (t .start - at)) s) ≡ token (t .form) (t .stop - suc (t .start)))
 Follows sw at s (end place) = Unit {0}
 Follows sw at s (Tokens.fault number place) = Unit {0}
 
@@ -109,28 +111,37 @@ module _ (sw : Switches) where
   unfolding Follows
   follows-on at b s (next t ts) f =
       let e : t .stop - at ≡ suc (t .stop - suc at) = omega arith in
-      (omega arith, f .1 ∙ ap (λ (n : ℕ). cut sw 0 (t .stop) (drop n (b ∷ s))) (sym e))
+      let o : t .start - at ≡ suc (t .start - suc at) = omega arith in (
+        omega arith,
+        f .1 ∙ ap (λ (n : ℕ). cut sw 0 (t .stop) (drop n (b ∷ s))) (sym e),
+        omega arith,
+        ap (λ (n : ℕ). item sw (getD (b ∷ s) n 0) (drop (suc n) (b ∷ s))) o ∙ f .3,
+      )
   follows-on at b s (end place) f = tt
   follows-on at b s (Tokens.fault number place) f = tt
 
-  item-follows : (at b : ℕ) (s : List ℕ) (i : Item) → EndsBy (length s) i
+  item-follows : (at b : ℕ) (s : List ℕ) (i : Item) → item sw b s ≡ i → EndsBy (length s) i
       → ((more : ℕ) → more ≤ length s → Follows sw (suc at) s (cut sw more (suc at) s))
       → Follows sw at (b ∷ s) (afterItem at i (λ more. cut sw more (suc at) s))
   unfolding Follows EndsBy afterItem
-  item-follows at b s (gap more) h k = follows-on at b s (cut sw more (suc at) s) (k more h)
-  item-follows at b s (token form more) h k =
-      let e : at + suc more - at ≡ suc more = omega arith in (
+  item-follows at b s (gap more) q h k = follows-on at b s (cut sw more (suc at) s) (k more h)
+  item-follows at b s (token form more) q h k =
+      let e : at + suc more - at ≡ suc more = omega arith in
+      let o : at - at ≡ 0 = omega arith in
+      let m : more ≡ at + suc more - suc at = omega arith in (
         omega arith,
         cut-left sw more (suc at) s h ∙ ap (λ (n : ℕ). cut sw 0 n (drop more s)) (suc-add at more ∙ sym (add-suc at more))
             ∙ ap (λ (n : ℕ). cut sw 0 (at + suc more) (drop n (b ∷ s))) (sym e),
+        le-refl at,
+        ap (λ (n : ℕ). item sw (getD (b ∷ s) n 0) (drop (suc n) (b ∷ s))) o ∙ q ∙ ap (token form) m,
       )
-  item-follows at b s (fault number) h k = tt
+  item-follows at b s (fault number) q h k = tt
 
   cut-follows : (left at : ℕ) (s : List ℕ) → left ≤ length s → Follows sw at s (cut sw left at s)
   unfolding cut Follows
   cut-follows left at [] h = tt
   cut-follows (suc left) at (b ∷ s) h = follows-on at b s (cut sw left (suc at) s) (cut-follows left (suc at) s (omega arith))
-  cut-follows zero at (b ∷ s) h = item-follows at b s (item sw b s) (item-ends sw b s) (λ more k. cut-follows more (suc at) s k)
+  cut-follows zero at (b ∷ s) h = item-follows at b s (item sw b s) refl (item-ends sw b s) (λ more k. cut-follows more (suc at) s k)
 
 -- what a reader knows once the next token from `at` is a token of the kind k from `start` to `stop`
 pub record Ahead (sw : Switches) (s : List ℕ) (at : ℕ) (k : TokenKind) (start stop : ℕ) : Type 0 where
@@ -139,22 +150,30 @@ pub record Ahead (sw : Switches) (s : List ℕ) (at : ℕ) (k : TokenKind) (star
   pub after : at ≤ start
   pub some : start < stop
   pub inside : stop ≤ length s
+  pub item : itemAt sw s start ≡ token form (stop - suc start)
   pub go-on : tokensFrom sw s at ≡ next (record { form = form; start = start; stop = stop }) (tokensFrom sw s stop)
 
 module _ (sw : Switches) (s : List ℕ) (at : ℕ) where
   token-ahead : (n : ℕ) (ts : Tokens) (k : TokenKind) (start stop : ℕ) → n ≡ length s → tokensFrom sw s at ≡ ts → Within n at ts
       → Follows sw at (drop at s) ts → firstOf ts ≡ X.Token k start stop → Ahead sw s at k start stop
-  unfolding Within Follows firstOf tokensFrom
+  unfolding Within Follows firstOf tokensFrom itemAt
   token-ahead n (next t ts) k start stop e q w f p =
       let start-is : t .start ≡ start = cc in
       let stop-is : t .stop ≡ stop = cc in
       let d : at + (t .stop - at) ≡ t .stop = omega arith in
+      let o : at + (t .start - at) ≡ t .start = omega arith in
+      let u : at + suc (t .start - at) ≡ suc (t .start) = omega arith in
       record {
         form = t .form;
         kind = (cc);
         after = omega arith;
         some = omega arith;
         inside = omega arith;
+        item =
+            (λ i. item sw (getD s (sym start-is i) 0) (drop (suc (sym start-is i)) s))
+            ∙ (λ i. item sw (getD s (sym o i) 0) (drop (sym u i) s))
+            ∙ (λ i. item sw (sym (getD-drop at s (t .start - at) 0) i) (sym (drop-drop (suc (t .start - at)) at s) i)) ∙ f .3
+            ∙ (λ i. token (t .form) (stop-is i - suc (start-is i)));
         go-on =
             q ∙ ap (next t) (f .1 ∙ ap (cut sw 0 (t .stop)) (drop-drop (t .stop - at) at s ∙ ap (λ (j : ℕ). drop j s) d))
             ∙ (λ i. next (record { form = t .form; start = start-is i; stop = stop-is i }) (cut sw 0 (stop-is i) (drop (stop-is i) s)));
