@@ -6,3 +6,4 @@ pub mod PlaceLaws
 pub mod NextLaws
 pub mod LocalLaws
 pub mod AloneLaws
+pub mod PartLaws

@@ -30,7 +30,7 @@ module _ (at e : ℕ) where
   found-gap (token form more) q = let z : _≡_ {A = ℕ} 0 1 = cc in absurd (omega arith)
   found-gap (fault number) q = let z : _≡_ {A = ℕ} 0 1 = cc in absurd (omega arith)
 
-  found-token : (k : TokenKind) (i : Item) → found at i ≡ F.Token k e → (form : Form) × (more : ℕ) × (i ≡ token form more) × (kindOf form ≡ k) × (e ≡ at + suc more)
+  pub found-token : (k : TokenKind) (i : Item) → found at i ≡ F.Token k e → (form : Form) × (more : ℕ) × (i ≡ token form more) × (kindOf form ≡ k) × (e ≡ at + suc more)
   unfolding found
   found-token k (gap more) q = let z : _≡_ {A = ℕ} 0 1 = cc in absurd (omega arith)
   found-token k (token form more) q = (form, more, refl, (cc), (cc))
@@ -54,7 +54,7 @@ chosen true f r q n = (refl, q)
 chosen false f r q n = absurd (n (sym q))
 
 module _ (sw : Switches) (s : List ℕ) (at : ℕ) where
-  item-there : (r : Found) → foundAt sw s at ≡ r → (r ≡ F.Nothing → ⊥) → (at < length s) × (found at (itemAt sw s at) ≡ r)
+  pub item-there : (r : Found) → foundAt sw s at ≡ r → (r ≡ F.Nothing → ⊥) → (at < length s) × (found at (itemAt sw s at) ≡ r)
   unfolding foundAt
   item-there r q n =
       let c = chosen (ltb at (length s)) (found at (itemAt sw s at)) r q n in

@@ -69,8 +69,9 @@ pub enum Next {
     },
 }
 
-// The byte at a place; 0 past the end, which opens nothing.
-fn byte_at(text: &[u8], i: usize) -> u8
+// The byte at a place; 0 past the end, which opens nothing. Public for the module beside, src/token.rt, and
+// the crates above.
+pub fn byte_at(text: &[u8], i: usize) -> u8
     ensures { λ r. ⌜ r ≡ getD (now (text .entry)) i 0 ⌝ }
 {
     if i < text.len() {
@@ -189,8 +190,8 @@ fn raw_item(sw: Switches, text: &[u8], at: usize, istext: bool, head: usize) -> 
     Found::Fault(3)
 }
 
-// A quote or a hash: after `r` or `br` it opens a raw string.
-fn opens_raw(b: u8) -> bool
+// A quote or a hash: after `r` or `br` it opens a raw string. Public for the module beside.
+pub fn opens_raw(b: u8) -> bool
     ensures { λ r. ⌜ r ≡ (eqb b 34 || eqb b 35) ⌝ }
 {
     if b == b'"' {
@@ -199,8 +200,8 @@ fn opens_raw(b: u8) -> bool
     b == b'#'
 }
 
-// `64"` from `i` on, where `b64"` opens a string.
-fn opens_base64(sw: Switches, text: &[u8], i: usize) -> bool
+// `64"` from `i` on, where `b64"` opens a string. Public for the module beside.
+pub fn opens_base64(sw: Switches, text: &[u8], i: usize) -> bool
     requires { ⌜ i ≤ length (now text) ⌝ }
     ensures { λ r. ⌜ r ≡ (sw .base64 && begins (54 ∷ 52 ∷ 34 ∷ []) (drop i (now (text .entry)))) ⌝ }
 {

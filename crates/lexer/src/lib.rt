@@ -1,4 +1,5 @@
-// The text cut into tokens: what stands at a place, and the next token from a place.
+// The text cut into tokens: what stands at a place, the next token from a place, and a token by itself.
 pub mod closing;
 pub mod item;
 pub mod runs;
+pub mod token;

@@ -1,0 +1,191 @@
+// A token by itself: the content of a string or key, by its bytes alone.
+ghost use mathlib.Core.Path.{_≡_};
+ghost use mathlib.Core.Option.{some};
+ghost use Prim.Native.Nat.{_<_, _+_};
+ghost use lib.ListN.{length, drop, getD};
+ghost use Rattle.literals.specs.Content.{fitted, placed, sameContent};
+ghost use Rattle.lexer.specs.Token.{stringItem, rawItem, smallItem, tokenContent};
+ghost use Rattle.lexer.specs.Internal.{isKeyKind, hasContent, Keyed, KeyedAs, PartIs};
+use super::item::Found;
+use super::item::TokenKind;
+use super::item::byte_at;
+use super::item::item_at;
+use super::item::opens_base64;
+use super::item::opens_raw;
+use super::runs::Run;
+use super::runs::run_end;
+use literals::compare::same_content;
+use literals::content::Written;
+use literals::content::write_content;
+use literals::decoder::Body;
+use text::switches::Switches;
+
+// Where a string or key holds its content, and how it is decoded.
+pub struct Part {
+    pub istext: bool,
+    pub body: Body,
+    pub from: usize,
+    pub to: usize,
+}
+
+// ---- where the content stands
+
+// A string's part: its opening has `head` bytes after its first, and k hashes stand after its closing quote.
+fn string_part(sw: Switches, token: &[u8], istext: bool, body: Body, head: usize, k: usize) -> Part
+    requires { ⌜ head < length (now token) ⌝ }
+    requires { ⌜ KeyedAs sw (now token) (stringItem sw istext body head k (drop (head + 1) (now token))) ⌝ }
+    ensures { λ r. ⌜ PartIs sw (now (token .entry)) r ⌝ }
+{
+    Part {
+        istext,
+        body,
+        from: head + 1,
+        to: token.len() - 1 - k,
+    }
+}
+
+// A raw string's part, whose `r` is `head` bytes after its first.
+fn raw_part(sw: Switches, token: &[u8], istext: bool, head: usize) -> Part
+    requires { ⌜ head < length (now token) ⌝ }
+    requires { ⌜ KeyedAs sw (now token) (rawItem sw istext head (drop (head + 1) (now token))) ⌝ }
+    ensures { λ r. ⌜ PartIs sw (now (token .entry)) r ⌝ }
+{
+    let from = head + 1;
+    let k = run_end(token, from, Run::Hash) - from;
+    string_part(sw, token, istext, Body::Raw, head + k + 1, k)
+}
+
+// A word's part: all of it.
+fn word_part(sw: Switches, token: &[u8]) -> Part
+    requires { ⌜ tokenContent sw (now token) ≡ some (now token) ⌝ }
+    ensures { λ r. ⌜ PartIs sw (now (token .entry)) r ⌝ }
+{
+    Part {
+        istext: false,
+        body: Body::Word,
+        from: 0,
+        to: token.len(),
+    }
+}
+
+// The part of what begins with a `b`.
+fn b_part(sw: Switches, token: &[u8]) -> Part
+    requires { ⌜ getD (now token) 0 0 ≡ 98 ⌝ }
+    requires { ⌜ KeyedAs sw (now token) (smallItem sw (getD (now token) 0 0) (drop 1 (now token))) ⌝ }
+    ensures { λ r. ⌜ PartIs sw (now (token .entry)) r ⌝ }
+{
+    let b = byte_at(token, 1);
+    if b == b'"' {
+        return string_part(sw, token, false, Body::Quoted, 1, 0);
+    }
+    if opens_base64(sw, token, 1) {
+        return string_part(sw, token, false, Body::Base64, 3, 0);
+    }
+    if b == b'r' {
+        if opens_raw(byte_at(token, 2)) {
+            return raw_part(sw, token, false, 1);
+        }
+        return word_part(sw, token);
+    }
+    word_part(sw, token)
+}
+
+// The part of what begins with a small letter.
+fn small_part(sw: Switches, token: &[u8]) -> Part
+    requires { ⌜ KeyedAs sw (now token) (smallItem sw (getD (now token) 0 0) (drop 1 (now token))) ⌝ }
+    ensures { λ r. ⌜ PartIs sw (now (token .entry)) r ⌝ }
+{
+    let b = byte_at(token, 0);
+    if b == b'b' {
+        return b_part(sw, token);
+    }
+    if b == b'r' {
+        if opens_raw(byte_at(token, 1)) {
+            return raw_part(sw, token, true, 0);
+        }
+        return word_part(sw, token);
+    }
+    word_part(sw, token)
+}
+
+// Where a string or key holds its content. Public for the crates above only, which show that it is one.
+pub fn part_of(sw: Switches, token: &[u8]) -> Part
+    requires { ⌜ Keyed sw (now token) ⌝ }
+    ensures { λ r. ⌜ PartIs sw (now (token .entry)) r ⌝ }
+{
+    let class = text::bytes::class_of(byte_at(token, 0));
+    if class == 3 {
+        return small_part(sw, token);
+    }
+    if class == 5 {
+        return string_part(sw, token, true, Body::Quoted, 0, 0);
+    }
+    word_part(sw, token)
+}
+
+// ---- contents
+
+fn is_key_kind(kind: TokenKind) -> bool
+    ensures { λ r. ⌜ r ≡ isKeyKind kind ⌝ }
+{
+    match kind {
+        TokenKind::Mark(_) => false,
+        TokenKind::Word => true,
+        TokenKind::Text(_) => true,
+        TokenKind::Bytes(_) => true,
+        TokenKind::Integer(_) => false,
+        TokenKind::Decimal {
+            minus: _,
+            m: _,
+            p: _,
+        } => false,
+    }
+}
+
+// Whether the bytes are one string or key. Public for the crates above only, which show so what `same_keys` asks.
+pub fn is_keyed(sw: Switches, token: &[u8]) -> bool
+    ensures { λ r. ⌜ r ≡ hasContent (tokenContent sw (now (token .entry))) ⌝ }
+{
+    match item_at(sw, token, 0) {
+        Found::Gap(_) => false,
+        Found::Token(kind, end) => {
+            if end == token.len() {
+                return is_key_kind(kind);
+            }
+            false
+        }
+        Found::Fault(_) => false,
+        Found::Nothing => false,
+    }
+}
+
+// Writes the content of a string or key at the output's front, if the bytes are one and the output has room for it.
+pub fn put_token(sw: Switches, token: &[u8], out: &mut [u8]) -> Written
+    ensures { λ r. ⌜ (r ≡ fitted (length (now (out .entry))) (tokenContent sw (now (token .entry)))) × (now (out .exit) ≡ placed (tokenContent sw (now (token .entry))) (now (out .entry))) ⌝ }
+{
+    if is_keyed(sw, token) {
+        let part = part_of(sw, token);
+        let body = part.body;
+        let from = part.from;
+        let to = part.to;
+        return write_content(sw, part.istext, body, &token[from..to], out);
+    }
+    Written::Refused
+}
+
+// Whether two strings or keys have the same content. Public for the crates above only, which show that they are such.
+pub fn same_keys(sw: Switches, a: &[u8], b: &[u8]) -> bool
+    requires { ⌜ Keyed sw (now a) ⌝ }
+    requires { ⌜ Keyed sw (now b) ⌝ }
+    ensures { λ r. ⌜ r ≡ sameContent (tokenContent sw (now (a .entry))) (tokenContent sw (now (b .entry))) ⌝ }
+{
+    let p = part_of(sw, a);
+    let q = part_of(sw, b);
+    let abody = p.body;
+    let afrom = p.from;
+    let ato = p.to;
+    let bbody = q.body;
+    let bfrom = q.from;
+    let bto = q.to;
+    same_content(sw, abody, &a[afrom..ato], bbody, &b[bfrom..bto])
+}
