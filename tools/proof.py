@@ -227,7 +227,8 @@ def named_calls(text, member):
 def fill(name, fn, answers_file):
     path = os.path.join('crates', name, 'proofs', fn, 'Proof.antt')
     text = skeleton(name, fn, path)
-    members = fn[1:].split('+') if fn.startswith('+') else []
+    last = os.path.basename(fn)
+    members = last[1:].split('+') if last.startswith('+') else []
     tuples = ''
     for member in members:
         text, definition = named_calls(text, member)

@@ -1,4 +1,4 @@
--- The content call (document 01, "Content of a string").
+-- The content call (document 01, "Content of a string"). The code answers with an enum of its own, src/content.rt: `answered` gives it.
 -- Assumes nothing.
 use Prim.Native.Nat.{ℕ, _+_, _-_, _*_}
 use mathlib.Core.Bool.{Bool, cond, _&&_}
@@ -10,6 +10,8 @@ use Rattle.text.specs.declared.switches.Switches.{Switches}
 use Rattle.text.specs.Utf8.{isUtf8}
 use Rattle.lexer.specs.Token.{tokenContent}
 use Rattle.reader.specs.Reading.{maxText}
+use Rattle.reader.specs.declared.content.Given.{Given}
+use Rattle.reader.specs.declared.content.Given.the-variants as G
 
 -- the part of a text from `start` to before `stop`
 abbrev pub part : (start stop : ℕ) → List ℕ → List ℕ
@@ -20,29 +22,36 @@ unfoldable pub isSpan : (start stop : ℕ) → List ℕ → Bool
 isSpan start stop text = leb start stop && leb stop (length text) && leb (stop - start) maxText
 
 -- "any string token or any word of the key shape, valid by itself, UTF-8 included"
+unfoldable pub contentAlone : Switches → (token : List ℕ) → Option (List ℕ)
+contentAlone sw token = cond (isUtf8 token) (tokenContent sw token) none
+
 unfoldable pub spanContent : Switches → (start stop : ℕ) → List ℕ → Option (List ℕ)
-spanContent sw start stop text =
-    cond (isSpan start stop text) (cond (isUtf8 (part start stop text)) (tokenContent sw (part start stop text)) none) none
+spanContent sw start stop text = cond (isSpan start stop text) (contentAlone sw (part start stop text)) none
 
 -- what the call answers: the content, or a refusal
-pub data Given : Type 0 where
-  given : (content : List ℕ) → Given
-  refused : (number : ℕ) → Given
+pub data Answer : Type 0 where
+  given : (content : List ℕ) → Answer
+  refused : (number : ℕ) → Answer
 
 -- 19 "span isn't one string or key", 20 "content longer than the output"; "19 goes before 20"
-unfoldable pub fitting : (room : ℕ) → Option (List ℕ) → Given
+unfoldable pub fitting : (room : ℕ) → Option (List ℕ) → Answer
 fitting room none = refused 19
 fitting room (some content) = cond (leb (length content) room) (given content) (refused 20)
 
-unfoldable pub contentCall : Switches → (start stop : ℕ) (text out : List ℕ) → Given
+unfoldable pub contentCall : Switches → (start stop : ℕ) (text out : List ℕ) → Answer
 contentCall sw start stop text out = fitting (length out) (spanContent sw start stop text)
 
 -- "writes its content at the output's front; the rest of the output stays"; "both write nothing"
-unfoldable pub written : Given → List ℕ → List ℕ
+unfoldable pub written : Answer → List ℕ → List ℕ
 written (given content) out = content ++ drop (length content) out
 written (refused number) out = out
 
+-- the code's enum for each case: the bytes written, or the number of the refusal
+unfoldable pub answered : Answer → Given
+answered (given content) = G.Bytes (length content)
+answered (refused number) = G.Refused number
+
 -- "refusal times 4294967296 plus the bytes written"
-unfoldable pub contentNumber : Given → ℕ
+unfoldable pub contentNumber : Answer → ℕ
 contentNumber (given content) = length content
 contentNumber (refused number) = number * 4294967296

@@ -1,2 +1,8 @@
 // The reader: from a text to a flat table of nodes, and the content call.
+pub mod begin;
+pub mod content;
+pub mod items;
+pub mod keys;
+pub mod rows;
 pub mod tree;
+pub mod values;

@@ -6,17 +6,19 @@ use mathlib.Core.List.{List}
 use lib.ListN.{length, getD}
 use lib.IntN.{ℤ, pos, negsuc}
 use lib.Signed.{leZ}
-use mathlib.Core.Bool.{true}
+use mathlib.Core.Bool.{true, cond}
 use Rattle.text.specs.declared.switches.Switches.{Switches}
+use Rattle.text.specs.Bytes.{sameBytes, is, ascii}
 use Rattle.lexer.specs.declared.item.TokenKind.{TokenKind}
 use Rattle.lexer.specs.Token as L
 use Rattle.lexer.specs.Token.{Form, Item, Token, itemAt}
 use Rattle.lexer.specs.Answer.{kindOf}
+use Rattle.reader.specs.declared.tree.Kind.the-variants.{Object, Array, Tuple}
 use Rattle.reader.specs.declared.tree.Leaf.{Leaf}
 use Rattle.reader.specs.declared.tree.Begin.{Begin}
 use Rattle.reader.specs.declared.tree.Begin.the-variants as B
-use Rattle.reader.specs.Tree.{Span, Scalar, scalarNumber, scalarWords}
-use Rattle.reader.specs.Syntax.{begins, container, scalar, identifier, nothing, spanOf}
+use Rattle.reader.specs.Tree.{Span, Scalar, trueValue, falseValue, nullValue, scalarNumber, scalarWords}
+use Rattle.reader.specs.Syntax.{begins, container, scalar, identifier, nothing, spanOf, opensWithCapital}
 
 -- the form of the token at a place; a mark 0 where no token is
 unfoldable pub formOf : Item → Form
@@ -56,6 +58,17 @@ BeginIs sw s start stop B.Nothing = begins (spanOf (tokenAt sw s start stop)) (f
 
 pub record Begun (sw : Switches) (s : List ℕ) (start stop : ℕ) (r : Begin) : Type 0 where
   pub is : BeginIs sw s start stop r
+
+-- what a mark begins, and what a word of these bytes does
+unfoldable pub markBegin : ℕ → Begin
+markBegin b = cond (is "{" b) (B.Container Object) (cond (is "[" b) (B.Container Array) (cond (is "(" b) (B.Container Tuple) B.Nothing))
+
+unfoldable pub wordBegin : List ℕ → Begin
+wordBegin s =
+    cond (sameBytes s (ascii "true")) (B.Scalar (leafOf trueValue))
+    (cond (sameBytes s (ascii "false")) (B.Scalar (leafOf falseValue))
+    (cond (sameBytes s (ascii "null")) (B.Scalar (leafOf nullValue))
+    (cond (opensWithCapital s) B.Identifier B.Nothing)))
 
 -- what a decimal token's numbers keep to
 pub record DecimalFits (m : ℕ) (p : ℤ) : Type 0 where

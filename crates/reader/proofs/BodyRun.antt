@@ -1,0 +1,282 @@
+-- A container while it is read: what its loop keeps, and each way on and out.
+-- Assumes nothing.
+use mathlib.Core.Path.{_≡_, refl, ap, sym, subst, _∙_}
+use mathlib.Core.List.{List, [], _∷_, _++_}
+use mathlib.Core.Option.{Option, none, some}
+use mathlib.Core.Bool.{Bool, true, false, cond, _&&_, false≢true}
+use Prim.Native.Nat.{ℕ, zero, suc, _+_, _-_, _*_, _<_, _≤_}
+use native.Mathlib.Numerals.{add-one}
+use native.Mathlib.Omega.{arith}
+use lib.Dec.{eqb, leb}
+use lib.ListN.{length, getD}
+use lib.Seq.{sets, length-sets}
+use borrow.Author.Tests.{ne-eqb, le-leb, lt-leb, leb-false}
+use Rattle.text.specs.declared.switches.Switches.{Switches}
+use Rattle.lexer.specs.declared.item.TokenKind.{TokenKind}
+use Rattle.reader.specs.declared.tree.Kind.{Kind}
+use Rattle.reader.specs.declared.tree.Limits.{Limits}
+use Rattle.reader.specs.declared.tree.Spans.{Spans}
+use Rattle.reader.specs.declared.items.Item.{Item}
+use Rattle.reader.specs.declared.items.Item.the-variants as I
+use Rattle.reader.specs.declared.items.After.{After}
+use Rattle.reader.specs.declared.items.After.the-variants as X
+use Rattle.reader.specs.declared.values.Answer.{Answer}
+use Rattle.reader.specs.declared.values.Answer.the-variants as A
+use Rattle.reader.specs.Tree.{Span, Tree, branch, Forest, nil, snoc, count, size, sizes, headOf, kindNumber, rows, rowsAll}
+use Rattle.reader.specs.Syntax.{Label, label, Frame, frame, Slot, first, after, more, Mode, value, inside, Config, config, Step, go, refuse, refuseIf, container, isObject, headBy, ended, finished, noNode, counted, valueStep, Outcome, refused, afterStep}
+use Rattle.reader.specs.Internal.Tokens.{tokenAt}
+use Rattle.reader.specs.Internal.Values
+use Rattle.reader.specs.Internal.Values.{spanAt, labelOf, Sane, rowWords, runFrom, nodesAt, opened, openedHere, Chain, Chained, slotOf, innerAt, Known, Look, Valued, Ends, Refuses, ItemIs, NextIs, Fit, Took, Stops, Ran, RanIs}
+use Rattle.reader.proofs.SizeLaws.{sizes-snoc, count-snoc}
+use Rattle.reader.proofs.KeyWalk.{chain-more, getD-sets}
+use Rattle.reader.proofs.RowLaws.{glue, crown, size-pos, row-says}
+
+pub record Body (sw : Switches) (limits : Limits) (s : List ℕ) (kind : Kind) (l : Label) (ω : List Frame → Outcome) (o d n : ℕ) (tin : List ℕ) (ts : Forest) (ks : List (List ℕ)) (τ : List Frame → Config) (i m z : ℕ) (tab : List ℕ) : Type 0 where
+  pub counted : z ≡ count ts
+  pub grew : m ≡ n + 1 + sizes ts
+  pub few : z < m
+  pub below : m ≤ limits .nodes
+  pub ahead : o < i
+  pub inside : i ≤ length s
+  pub room : 12 * limits .nodes ≤ length tin
+  pub long : length tab ≡ length tin
+  pub wrote : tab ≡ sets tin (12 * (n + 1)) (rowsAll n (n + 1) ts)
+  pub chained : isObject kind ≡ true → Chain sw s tab (n + 1) m ks
+  pub ran : (stack : List Frame) → length stack ≡ d → ω stack ≡ runFrom sw limits s i (τ stack)
+
+abbrev pub Within : (sw : Switches) (limits : Limits) (s : List ℕ) (kind : Kind) (l : Label) (ω : List Frame → Outcome) (o d n : ℕ) (tin : List ℕ) (ts : Forest) (ks : List (List ℕ)) (i m z : ℕ) (tab : List ℕ) → Type 0
+Within sw limits s kind l ω o d n tin ts ks i m z tab = Body sw limits s kind l ω o d n tin ts ks (λ stack. innerAt kind l ts ks stack m z) i m z tab
+
+-- ---- answers by their cases
+
+module _ {sw : Switches} {limits : Limits} {s : List ℕ} {r : Answer} {ω : List Frame → Outcome} {l : Label} {name : Option Span} {o d parent n : ℕ} {tin tout : List ℕ} where
+  pub took : {j m : ℕ} → r ≡ A.Done j m → Ran sw limits s ω l name o d parent n tin tout r → Took sw limits s ω l name o d parent n tin tout j m
+  took e h = subst (RanIs sw limits s ω l name o d parent n tin tout) e (h .is)
+
+  pub stops : {c q : ℕ} → r ≡ A.Refused c q → Ran sw limits s ω l name o d parent n tin tout r → Stops ω d c q
+  stops e h = subst (RanIs sw limits s ω l name o d parent n tin tout) e (h .is)
+
+module _ {sw : Switches} {s : List ℕ} {kind : Kind} {tab : List ℕ} {i x m z : ℕ} {r : Item} where
+  pub value-is : {k : TokenKind} {start stop a b : ℕ} → r ≡ I.Value k start stop a b → Values.ItemAt sw s kind tab i x m z r → Valued sw s kind tab i x m z k start stop a b
+  value-is e h = subst (ItemIs sw s kind tab i x m z) e (h .is)
+
+  pub last-is : {j : ℕ} → r ≡ I.Last j → Values.ItemAt sw s kind tab i x m z r → Ends sw s kind tab i x m z j
+  last-is e h = subst (ItemIs sw s kind tab i x m z) e (h .is)
+
+  pub wrong-is : {c q : ℕ} → r ≡ I.Wrong c q → Values.ItemAt sw s kind tab i x m z r → Refuses sw s kind tab i x m z c q
+  wrong-is e h = subst (ItemIs sw s kind tab i x m z) e (h .is)
+
+module _ {sw : Switches} {s : List ℕ} {kind : Kind} {i : ℕ} {r : After} where
+  pub more-is : {j : ℕ} → r ≡ X.More j → Values.NextAt sw s kind i r → Values.Follows sw s kind i j
+  more-is e h = subst (NextIs sw s kind i) e (h .is)
+
+  pub over-is : {j : ℕ} → r ≡ X.Over j → Values.NextAt sw s kind i r → Values.Closes sw s kind i j
+  over-is e h = subst (NextIs sw s kind i) e (h .is)
+
+  pub off-is : {c q : ℕ} → r ≡ X.Off c q → Values.NextAt sw s kind i r → Values.FollowsNot sw s kind i c q
+  off-is e h = subst (NextIs sw s kind i) e (h .is)
+
+-- ---- the loop
+
+slot-more : (z : ℕ) → 0 < z → slotOf z ≡ more
+slot-more z h = let n : z ≡ 0 → ⊥ = λ q. omega arith in rw (ne-eqb z 0 n)
+
+module _ {sw : Switches} {limits : Limits} {s : List ℕ} {kind : Kind} {l : Label} {ω : List Frame → Outcome} {o d n : ℕ} {tin : List ℕ} where
+  known : {ts : Forest} {ks : List (List ℕ)} {τ : List Frame → Config} {i m z : ℕ} {tab : List ℕ} → Body sw limits s kind l ω o d n tin ts ks τ i m z tab → Known sw s kind tab (n + 1) m ks
+  known B = record { chain = B .chained }
+
+  pub body-look : {ts : Forest} {ks : List (List ℕ)} {i m z : ℕ} {tab : List ℕ} → length s ≤ 65536 → Within sw limits s kind l ω o d n tin ts ks i m z tab → Look sw s kind tab i (n + 1) m
+  body-look {ts} {ks} h B = record { inside = B .inside; short = h; chained = λ e. record { keys = ks; chain = B .chained e } }
+
+  -- a child was read
+  pub body-value : {ts : Forest} {ks : List (List ℕ)} {i m z : ℕ} {tab : List ℕ} {k : TokenKind} {start stop a b : ℕ} {out : List ℕ} {j e : ℕ}
+      → Within sw limits s kind l ω o d n tin ts ks i m z tab → (I : Valued sw s kind tab i (n + 1) m z k start stop a b)
+      → (T : Took sw limits s (openedHere sw limits s start stop true (spanAt a b) m) (label start (spanAt a b) none) none start (d + 1) n m tab out j e) → length out ≡ length tab
+      → Body sw limits s kind l ω o d n tin (snoc ts (T .tree)) (I .keys ks) (λ stack. config (frame kind l (snoc ts (T .tree)) (I .keys ks) ∷ stack) (inside after) e) j e (z + 1) out
+  unfolding ended finished
+  body-value {ts} {ks} {i} {m} {z} {tab} {k} {start} {stop} {a} {b} {out} {j} {e} B I T L =
+      let c = count-snoc ts (T .tree) in
+      let q = sizes-snoc ts (T .tree) in
+      let p = size-pos (T .tree) in
+      let g = T .grew in
+      let y = T .below in
+      let r = B .room in
+      record {
+        counted = omega (arith, B .counted);
+        grew = omega (arith, B .grew);
+        few = omega (arith, B .few);
+        below = y;
+        ahead = omega (arith, B .ahead, I .ahead, T .ahead);
+        inside = T .inside;
+        room = r;
+        long = L ∙ B .long;
+        wrote = glue tin tab out n m ts (T .tree) (B .grew) (B .wrote) (T .wrote);
+        chained =
+            λ h.
+            subst (λ (js : List (List ℕ)). Chain sw s out (n + 1) e js) (sym (I .added h ks))
+            (subst (λ (x : ℕ). Chain sw s out (n + 1) x (ks ++ (I .content ∷ []))) (sym g)
+            (chain-more sw s tab out m (m + size (T .tree)) a b (I .content)
+            (λ x lt. ap (λ (u : List ℕ). getD u x 0) (T .wrote) ∙ getD-sets (rows n m (T .tree)) tab x (12 * m) lt)
+            L
+            (row-says tab out n m a b (T .tree) (T .keyed) (I .sane) (omega (arith, B .long)) (T .wrote))
+            (omega (arith, B .long)) (omega arith) (I .key h) (n + 1) ks (B .chained h)));
+        ran =
+            λ stack h.
+            let u : suc (length stack) ≡ d + 1 = omega arith in
+            B .ran stack h ∙ I .ran limits l ts ks stack (known B) ∙ T .ran (frame kind l ts (I .keys ks) ∷ stack) u;
+      }
+
+  pub body-more : {ts : Forest} {ks : List (List ℕ)} {i m z : ℕ} {tab : List ℕ} {j : ℕ}
+      → Body sw limits s kind l ω o d n tin ts ks (λ stack. config (frame kind l ts ks ∷ stack) (inside after) m) i m z tab → Values.Follows sw s kind i j → 0 < z
+      → Within sw limits s kind l ω o d n tin ts ks j m z tab
+  body-more {ts} {ks} {i} {m} {z} {tab} {j} B A u =
+      record {
+        counted = B .counted;
+        grew = B .grew;
+        few = B .few;
+        below = B .below;
+        ahead = omega (arith, B .ahead, A .ahead);
+        inside = A .within;
+        room = B .room;
+        long = B .long;
+        wrote = B .wrote;
+        chained = B .chained;
+        ran =
+            λ stack h.
+            B .ran stack h ∙ A .ran limits l ts ks stack m
+            ∙ ap (λ (x : Slot). runFrom sw limits s j (config (frame kind l ts ks ∷ stack) (inside x) m)) (sym (slot-more z u));
+      }
+
+  -- the container's end
+  pub body-over : {ts : Forest} {ks : List (List ℕ)} {i m z : ℕ} {tab : List ℕ} {j : ℕ}
+      → Body sw limits s kind l ω o d n tin ts ks (λ stack. config (frame kind l ts ks ∷ stack) (inside after) m) i m z tab → Values.Closes sw s kind i j
+      → Body sw limits s kind l ω o d n tin ts ks (λ stack. ended stack m (l .name) (branch (headBy l j) kind ts)) j m z tab
+  body-over {ts} {ks} {i} {m} {z} {tab} {j} B A =
+      record {
+        counted = B .counted;
+        grew = B .grew;
+        few = B .few;
+        below = B .below;
+        ahead = omega (arith, B .ahead, A .ahead);
+        inside = A .within;
+        room = B .room;
+        long = B .long;
+        wrote = B .wrote;
+        chained = B .chained;
+        ran = λ stack h. B .ran stack h ∙ A .ran limits l ts ks stack m;
+      }
+
+  pub body-last : {ts : Forest} {ks : List (List ℕ)} {i m z : ℕ} {tab : List ℕ} {j : ℕ}
+      → Within sw limits s kind l ω o d n tin ts ks i m z tab → Ends sw s kind tab i (n + 1) m z j
+      → Body sw limits s kind l ω o d n tin ts ks (λ stack. ended stack m (l .name) (branch (headBy l j) kind ts)) j m z tab
+  body-last {ts} {ks} {i} {m} {z} {tab} {j} B I =
+      record {
+        counted = B .counted;
+        grew = B .grew;
+        few = B .few;
+        below = B .below;
+        ahead = omega (arith, B .ahead, I .ahead);
+        inside = I .inside;
+        room = B .room;
+        long = B .long;
+        wrote = B .wrote;
+        chained = B .chained;
+        ran = λ stack h. B .ran stack h ∙ I .ran limits l ts ks stack (known B);
+      }
+
+  pub body-wrong : {ts : Forest} {ks : List (List ℕ)} {i m z : ℕ} {tab : List ℕ} {c q : ℕ}
+      → Within sw limits s kind l ω o d n tin ts ks i m z tab → Refuses sw s kind tab i (n + 1) m z c q → Stops ω d c q
+  body-wrong {ts} {ks} B I = record { ran = λ stack h. B .ran stack h ∙ I .ran limits l ts ks stack (known B) }
+
+  pub body-stop : {ts : Forest} {ks : List (List ℕ)} {i m z : ℕ} {tab : List ℕ} {k : TokenKind} {start stop a b c q : ℕ}
+      → Within sw limits s kind l ω o d n tin ts ks i m z tab → Valued sw s kind tab i (n + 1) m z k start stop a b
+      → Stops (openedHere sw limits s start stop true (spanAt a b) m) (d + 1) c q → Stops ω d c q
+  body-stop {ts} {ks} B I T =
+      record {
+        ran =
+            λ stack h.
+            let u : suc (length stack) ≡ d + 1 = omega arith in
+            B .ran stack h ∙ I .ran limits l ts ks stack (known B) ∙ T .ran (frame kind l ts (I .keys ks) ∷ stack) u;
+      }
+
+  pub body-off : {ts : Forest} {ks : List (List ℕ)} {i m z : ℕ} {tab : List ℕ} {c q : ℕ}
+      → Body sw limits s kind l ω o d n tin ts ks (λ stack. config (frame kind l ts ks ∷ stack) (inside after) m) i m z tab → Values.FollowsNot sw s kind i c q → Stops ω d c q
+  body-off {ts} {ks} {i} {m} B A = record { ran = λ stack h. B .ran stack h ∙ A .ran limits l ts ks stack m }
+
+-- the container's row is written
+pub body-took : {sw : Switches} {limits : Limits} {s : List ℕ} {kind : Kind} {p : Spans} {ω : List Frame → Outcome} {o d n : ℕ} {tin : List ℕ} {ts : Forest} {ks : List (List ℕ)} {j m z : ℕ} {tab out : List ℕ} {word parent : ℕ}
+    → Sane p → Body sw limits s kind (labelOf p) ω o d n tin ts ks (λ stack. ended stack m (labelOf p .name) (branch (headBy (labelOf p) j) kind ts)) j m z tab
+    → word ≡ kindNumber kind → out ≡ sets tab (12 * n) (rowWords word parent p j m z 0 0)
+    → Took sw limits s ω (labelOf p) (labelOf p .name) o d parent n tin out j m
+unfolding size headOf headBy
+body-took {sw} {limits} {s} {kind} {p} {ω} {o} {d} {n} {tin} {ts} {ks} {j} {m} {z} {tab} {out} {word} {parent} ok B e v =
+    record {
+      tree = branch (headBy (labelOf p) j) kind ts;
+      keyed = refl;
+      begun = refl;
+      stopped = refl;
+      grew = omega (arith, B .grew);
+      below = B .below;
+      ahead = B .ahead;
+      inside = B .inside;
+      wrote = crown tin tab out p ok kind word parent n m z j ts e (B .grew) (B .counted) (B .wrote) v;
+      ran = B .ran;
+    }
+
+-- ---- the opening
+
+pub no-node : (limits : Limits) (stack : List Frame) (mode : Mode) (fresh : Bool) (n : ℕ) → noNode limits fresh (config stack mode (nodesAt fresh n)) ≡ (fresh && leb (limits .nodes) n)
+unfolding noNode
+no-node limits stack mode true n = refl
+no-node limits stack mode false n = refl
+
+pub count-one : (limits : Limits) (stack : List Frame) (mode : Mode) (fresh : Bool) (n : ℕ) → counted limits fresh (config stack mode (nodesAt fresh n)) ≡ n + 1
+unfolding counted
+count-one limits stack mode true n = sym (add-one n)
+count-one limits stack mode false n = sym (add-one n)
+
+pub node-left : (nodes : ℕ) (fresh : Bool) (n : ℕ) → (fresh && leb nodes n) ≡ false → (fresh ≡ false → n < nodes) → n < nodes
+node-left nodes true n e h = leb-false nodes n e
+node-left nodes false n e h = h refl
+
+module _ (sw : Switches) (limits : Limits) (s : List ℕ) (start stop : ℕ) (fresh : Bool) (l : Label) (n d : ℕ) (kind : Kind) where
+  pub open-deep : limits .depth ≤ d → Stops (opened sw limits s start stop fresh true l n (container kind)) d 9 start
+  unfolding opened valueStep refuseIf afterStep
+  open-deep h =
+      record {
+        ran =
+            λ stack e.
+            let g : limits .depth ≤ length stack = omega arith in
+            rw (le-leb (limits .depth) (length stack) g);
+      }
+
+  pub open-full : d < limits .depth → (fresh && leb (limits .nodes) n) ≡ true → Stops (opened sw limits s start stop fresh true l n (container kind)) d 10 start
+  unfolding opened valueStep refuseIf afterStep
+  open-full h f =
+      record {
+        ran =
+            λ stack e.
+            let g : length stack < limits .depth = omega arith in
+            rw (lt-leb (limits .depth) (length stack) g, no-node limits stack (value true none) fresh n, f);
+      }
+
+  pub body-start : (tin : List ℕ) → d < limits .depth → (fresh && leb (limits .nodes) n) ≡ false → n < limits .nodes → start < stop → stop ≤ length s → 12 * limits .nodes ≤ length tin
+      → Within sw limits s kind l (opened sw limits s start stop fresh true l n (container kind)) start d n tin nil [] stop (n + 1) 0 tin
+  unfolding opened valueStep refuseIf afterStep count sizes rowsAll
+  body-start tin h f r o i w =
+      record {
+        counted = refl;
+        grew = omega arith;
+        few = omega arith;
+        below = omega arith;
+        ahead = o;
+        inside = i;
+        room = w;
+        long = refl;
+        wrote = refl;
+        chained = λ _. refl;
+        ran =
+            λ stack e.
+            let g : length stack < limits .depth = omega arith in
+            rw (lt-leb (limits .depth) (length stack) g, no-node limits stack (value true none) fresh n, f, count-one limits stack (value true none) fresh n);
+      }

@@ -1,0 +1,161 @@
+-- The walk over the keys of an object's children: what it has passed, and one child more.
+-- Assumes nothing.
+use mathlib.Core.Path.{_≡_, refl, sym, ap, _∙_, subst}
+use Prim.Native.Nat.{ℕ, zero, suc, _+_, _-_, _*_, _<_, _≤_}
+use native.Mathlib.Nat.{add-zero}
+use native.Mathlib.Omega.{arith}
+use mathlib.Core.Bool.{Bool, true, false, cond, _||_}
+use mathlib.Core.Option.{Option, none, some}
+use mathlib.Core.List.{List, [], _∷_, _++_}
+use lib.ListN.{length, getD, set, length-set, take, drop}
+use lib.Seq.{sets, length-sets, getD-set-same, getD-set-other}
+use Rattle.text.specs.declared.switches.Switches.{Switches}
+use Rattle.text.specs.Bytes.{sameBytes}
+use Rattle.literals.specs.Content.{sameContent}
+use Rattle.lexer.specs.Token.{tokenContent}
+use Rattle.lexer.specs.Internal.{Keyed}
+use Rattle.reader.specs.Syntax.{holds}
+use Rattle.reader.specs.Internal.Values.{bytesAt, KeyAt, KeyHere, Link, Chain, Chained, FoundKey}
+
+some-is : {a b : List ℕ} → some a ≡ some b → a ≡ b
+some-is e = cc
+
+-- a span has one content
+key-unique : (sw : Switches) (s : List ℕ) (a e : ℕ) (v w : List ℕ) → KeyAt sw s a e v → KeyAt sw s a e w → v ≡ w
+key-unique sw s a e v w p q = some-is (sym (p .holds) ∙ q .holds)
+
+chain-unique : (sw : Switches) (s tab : List ℕ) (x m : ℕ) (ks js : List (List ℕ)) → Chain sw s tab x m ks → Chain sw s tab x m js → ks ≡ js
+chain-unique sw s tab x m [] [] C D = refl
+chain-unique sw s tab x m [] (v ∷ js) C D = let L = D .0 in let z : ⊥ = omega arith in absurd z
+chain-unique sw s tab x m (w ∷ ks) [] C D = let L = C .0 in let z : ⊥ = omega arith in absurd z
+chain-unique sw s tab x m (w ∷ ks) (v ∷ js) C D =
+    ap (λ (y : List ℕ). y ∷ ks) (key-unique sw s (getD tab (12 * x + 4) 0) (getD tab (12 * x + 5) 0) w v (C .0 .key) (D .0 .key))
+    ∙ ap (λ (l : List (List ℕ)). v ∷ l) (chain-unique sw s tab (getD tab (12 * x + 8) 0) m ks js (C .1) (D .1))
+
+-- the walk for the key w has come to x
+pub record Walk (sw : Switches) (s tab : List ℕ) (from x m : ℕ) (w : List ℕ) : Type 0 where
+  pub keys : List (List ℕ)
+  pub chain : Chain sw s tab x m keys
+  pub same-as : (ks : List (List ℕ)) → Chain sw s tab from m ks → holds ks w ≡ holds keys w
+
+module _ (sw : Switches) (s tab : List ℕ) (from m : ℕ) (w : List ℕ) where
+  pub walk-start : Chained sw s tab from m → Walk sw s tab from from m w
+  walk-start C = record { keys = C .keys; chain = C .chain; same-as = λ ks D. ap (λ (js : List (List ℕ)). holds js w) (chain-unique sw s tab from m ks (C .keys) D (C .chain)) }
+
+  link-at : (x : ℕ) (ks : List (List ℕ)) → Chain sw s tab x m ks → x < m → (v : List ℕ) × Link sw s tab x m v
+  link-at x [] C h = let z : ⊥ = omega arith in absurd z
+  link-at x (v ∷ ks) C h = (v, C .0)
+
+  pub walk-row : (x : ℕ) → Walk sw s tab from x m w → x < m → (v : List ℕ) × Link sw s tab x m v
+  walk-row x A h = link-at x (A .keys) (A .chain) h
+
+  -- the span of the child at x, as words that were read
+  pub walk-key : (x b f : ℕ) → Walk sw s tab from x m w → x < m → b ≡ getD tab (12 * x + 4) 0 → f ≡ getD tab (12 * x + 5) 0 → (v : List ℕ) × KeyAt sw s b f v
+  walk-key x b f A h p q = let r = walk-row x A h in (r .0, rw (p, q) (r .1 .key))
+
+  -- the next child, where this one's key is another
+  on-is : (x : ℕ) (ks : List (List ℕ)) → Chain sw s tab x m ks → ((js : List (List ℕ)) → Chain sw s tab from m js → holds js w ≡ holds ks w) → x < m → (v : List ℕ)
+      → KeyAt sw s (getD tab (12 * x + 4) 0) (getD tab (12 * x + 5) 0) v → sameBytes v w ≡ false → Walk sw s tab from (getD tab (12 * x + 8) 0) m w
+  unfolding holds
+  on-is x [] C f h v k e = let z : ⊥ = omega arith in absurd z
+  on-is x (u ∷ ks) C f h v k e =
+      record {
+        keys = ks;
+        chain = C .1;
+        same-as =
+            λ js D.
+            f js D
+            ∙ ap (λ (b : Bool). b || holds ks w)
+            (ap (λ (y : List ℕ). sameBytes y w) (key-unique sw s (getD tab (12 * x + 4) 0) (getD tab (12 * x + 5) 0) u v (C .0 .key) k) ∙ e);
+      }
+
+  pub walk-on : (x b f y : ℕ) → Walk sw s tab from x m w → x < m → b ≡ getD tab (12 * x + 4) 0 → f ≡ getD tab (12 * x + 5) 0 → y ≡ getD tab (12 * x + 8) 0
+      → (v : List ℕ) → KeyAt sw s b f v → sameBytes v w ≡ false → Walk sw s tab from y m w
+  walk-on x b f y A h p q r v k e = rw r (on-is x (A .keys) (A .chain) (A .same-as) h v (rw (p, q) at k) e)
+
+  hit-is : (x : ℕ) (ks : List (List ℕ)) → Chain sw s tab x m ks → x < m → (v : List ℕ) → KeyAt sw s (getD tab (12 * x + 4) 0) (getD tab (12 * x + 5) 0) v → sameBytes v w ≡ true
+      → holds ks w ≡ true
+  unfolding holds
+  hit-is x [] C h v k e = let z : ⊥ = omega arith in absurd z
+  hit-is x (u ∷ ks) C h v k e =
+      ap (λ (b : Bool). b || holds ks w) (ap (λ (y : List ℕ). sameBytes y w) (key-unique sw s (getD tab (12 * x + 4) 0) (getD tab (12 * x + 5) 0) u v (C .0 .key) k) ∙ e)
+
+  end-is : (x : ℕ) (ks : List (List ℕ)) → Chain sw s tab x m ks → m ≤ x → holds ks w ≡ false
+  unfolding holds
+  end-is x [] C h = refl
+  end-is x (u ∷ ks) C h = let L = C .0 in let z : ⊥ = omega arith in absurd z
+
+  module _ (a e : ℕ) (K : KeyAt sw s a e w) where
+    pub walk-hit : (x b f : ℕ) → Walk sw s tab from x m w → x < m → b ≡ getD tab (12 * x + 4) 0 → f ≡ getD tab (12 * x + 5) 0 → (v : List ℕ) → KeyAt sw s b f v
+        → sameBytes v w ≡ true → FoundKey sw s tab from m a e true
+    walk-hit x b f A h p q v k r =
+        record {
+          is =
+              λ u U ks C.
+              sym (ap (holds ks) (key-unique sw s a e u w U K) ∙ A .same-as ks C ∙ hit-is x (A .keys) (A .chain) h v (rw (p, q) at k) r);
+        }
+
+    pub walk-end : (x : ℕ) → Walk sw s tab from x m w → m ≤ x → FoundKey sw s tab from m a e false
+    walk-end x A h = record { is = λ u U ks C. sym (ap (holds ks) (key-unique sw s a e u w U K) ∙ A .same-as ks C ∙ end-is x (A .keys) (A .chain) h) }
+
+-- what `same_keys` answered of two keys
+pub same-told : (sw : Switches) (s : List ℕ) (a e b f : ℕ) (v w : List ℕ) (r : Bool) → KeyAt sw s a e v → KeyAt sw s b f w
+    → r ≡ sameContent (tokenContent sw (bytesAt s a e)) (tokenContent sw (bytesAt s b f)) → r ≡ sameBytes v w
+unfolding sameContent
+same-told sw s a e b f v w r p q h = h ∙ (λ i. sameContent (p .holds i) (q .holds i))
+
+pub keyed : (sw : Switches) (s : List ℕ) (a e : ℕ) (w : List ℕ) → KeyAt sw s a e w → Keyed sw (bytesAt s a e)
+keyed sw s a e w k = record { content = w; is = k .holds }
+
+-- ---- words before those that are written stay, and those that are written are there
+
+pub getD-sets : (vs l : List ℕ) (i j : ℕ) → i < j → getD (sets l j vs) i 0 ≡ getD l i 0
+getD-sets [] l i j h = refl
+getD-sets (v ∷ vs) l i j h = getD-sets vs (set l j v) i (suc j) (omega arith) ∙ getD-set-other l j i v 0 (omega arith)
+
+pub getD-in : (vs l : List ℕ) (j k : ℕ) → k < length vs → j + length vs ≤ length l → getD (sets l j vs) (j + k) 0 ≡ getD vs k 0
+getD-in [] l j k h g = let z : ⊥ = omega arith in absurd z
+getD-in (v ∷ vs) l j zero h g = ap (λ (i : ℕ). getD (sets (set l j v) (suc j) vs) i 0) (add-zero j) ∙ getD-sets vs (set l j v) j (suc j) (omega arith) ∙ getD-set-same l j v 0 (omega arith)
+getD-in (v ∷ vs) l j (suc k) h g = ap (λ (i : ℕ). getD (sets (set l j v) (suc j) vs) i 0) next ∙ getD-in vs (set l j v) (suc j) k (omega arith) (simp length-set (omega arith))
+  where
+    next : j + suc k ≡ suc j + k
+    next = omega arith
+
+-- the words of a row that the walk reads
+pub record RowSays (tab : List ℕ) (x next a b : ℕ) : Type 0 where
+  pub next-is : getD tab (12 * x + 8) 0 ≡ next
+  pub start-is : getD tab (12 * x + 4) 0 ≡ a
+  pub end-is : getD tab (12 * x + 5) 0 ≡ b
+
+-- one more child: the walk over the rows goes on, and its contents have one more
+module _ (sw : Switches) (s tab out : List ℕ) (m next a b : ℕ) (w : List ℕ) (kept : (i : ℕ) → i < 12 * m → getD out i 0 ≡ getD tab i 0) (long : length out ≡ length tab)
+    (R : RowSays out m next a b) (h : 12 * m + 12 ≤ length tab) (up : m < next) (G : KeyAt sw s a b w) where
+  pub chain-more : (x : ℕ) (ks : List (List ℕ)) → Chain sw s tab x m ks → Chain sw s out x next (ks ++ (w ∷ []))
+  chain-more x [] e = rw e (last, R .next-is)
+    where
+      last : Link sw s out m next w
+      last =
+          record {
+            row = omega arith;
+            later = rw (R .next-is) up;
+            below = rw (R .next-is) (omega arith);
+            key = rw (R .start-is, R .end-is) G;
+          }
+  chain-more x (v ∷ ks) C = (
+    record {
+      row = omega arith;
+      later = rw same8 (C .0 .later);
+      below = rw same8 (omega arith);
+      key = rw (same4, same5) (C .0 .key);
+    },
+    subst (λ (y : ℕ). Chain sw s out y next (ks ++ (w ∷ []))) (sym same8) (chain-more (getD tab (12 * x + 8) 0) ks (C .1)),
+  )
+    where
+      same8 : getD out (12 * x + 8) 0 ≡ getD tab (12 * x + 8) 0
+      same8 = let L = C .0 in kept (12 * x + 8) (omega arith)
+
+      same4 : getD out (12 * x + 4) 0 ≡ getD tab (12 * x + 4) 0
+      same4 = let L = C .0 in kept (12 * x + 4) (omega arith)
+
+      same5 : getD out (12 * x + 5) 0 ≡ getD tab (12 * x + 5) 0
+      same5 = let L = C .0 in kept (12 * x + 5) (omega arith)

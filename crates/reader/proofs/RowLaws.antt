@@ -1,0 +1,202 @@
+-- Rows of the table: the words that the code writes are those of the tree, one row after another and out of order.
+-- Assumes nothing.
+use mathlib.Core.Path.{_≡_, refl, ap, sym, _∙_}
+use mathlib.Core.List.{List, [], _∷_, _++_}
+use mathlib.Core.Option.{Option, none, some}
+use mathlib.Core.Bool.{Bool, true, false, cond}
+use Prim.Native.Nat.{ℕ, zero, suc, _+_, _-_, _*_, _<_, _≤_}
+use native.Mathlib.Nat.{add-zero}
+use native.Mathlib.Numerals.{add-one}
+use native.Mathlib.Omega.{arith}
+use lib.Dec.{eqb}
+use lib.ListN.{length, set, getD, length-append}
+use lib.Seq.{sets, set-comm, length-sets}
+use borrow.Author.Tests.{eq-eqb, ne-eqb, eqb-true}
+use Rattle.reader.specs.declared.tree.Kind.{Kind}
+use Rattle.reader.specs.declared.tree.Leaf.{Leaf}
+use Rattle.reader.specs.declared.tree.Spans.{Spans}
+use Rattle.reader.specs.Tree.{Span, Head, Scalar, text, bytes, integer, decimal, falseValue, trueValue, nullValue, Tree, leaf, branch, Forest, nil, cons, snoc, count, size, sizes, headOf, spanWords, headWords, kindNumber, scalarNumber, scalarWords, rows, rowsAll}
+use Rattle.reader.specs.Syntax.{Label, label, headBy, stopAt, withStop}
+use Rattle.reader.specs.Internal.Tokens.{leafOf}
+use Rattle.reader.specs.Internal.Values.{spanAt, labelOf, Sane, rowWords}
+use Rattle.reader.proofs.SpanLaws.{length-rows, length-rowsAll}
+use Rattle.reader.proofs.SizeLaws.{rowsAll-snoc}
+use Rattle.reader.proofs.KeyWalk.{getD-in, RowSays}
+
+-- ---- stores
+
+pub sets-append : (l : List ℕ) (i : ℕ) (a b : List ℕ) → sets l i (a ++ b) ≡ sets (sets l i a) (i + length a) b
+sets-append l i [] b = rw add-zero
+sets-append l i (x ∷ a) b = sets-append (set l i x) (suc i) a b ∙ ap (λ (k : ℕ). sets (sets (set l i x) (suc i) a) k b) (omega arith)
+
+set-sets : (vs l : List ℕ) (i j a : ℕ) → i < j → set (sets l j vs) i a ≡ sets (set l i a) j vs
+set-sets [] l i j a h = refl
+set-sets (v ∷ vs) l i j a h = set-sets vs (set l j v) i (suc j) a (omega arith) ∙ ap (λ (x : List ℕ). sets x (suc j) vs) (set-comm l j i v a (omega arith))
+
+pub sets-swap : (us l : List ℕ) (i j : ℕ) (vs : List ℕ) → i + length us ≤ j → sets (sets l j vs) i us ≡ sets (sets l i us) j vs
+sets-swap [] l i j vs h = refl
+sets-swap (u ∷ us) l i j vs h = ap (λ (x : List ℕ). sets x (suc i) us) (set-sets vs l i j u (omega arith)) ∙ sets-swap us (set l i u) (suc i) j vs (omega arith)
+
+-- ---- words
+
+-- the two words of a span
+span-words : (a e : ℕ) → (e ≡ 0 → a ≡ 0) → spanWords (spanAt a e) ≡ a ∷ e ∷ []
+unfolding spanWords spanAt
+span-words a zero h = let z : a ≡ 0 = h refl in ap (λ (x : ℕ). x ∷ 0 ∷ []) (sym z)
+span-words a (suc e) h = let n : suc e ≡ 0 → ⊥ = λ q. omega arith in rw (ne-eqb (suc e) 0 n)
+
+-- a scalar has three words of its own
+three : (v : Scalar) → scalarWords v ≡ getD (scalarWords v) 0 0 ∷ getD (scalarWords v) 1 0 ∷ getD (scalarWords v) 2 0 ∷ []
+unfolding scalarWords
+three (text t c) = refl
+three (bytes t c) = refl
+three (integer z) = refl
+three (decimal minus m q) = refl
+three falseValue = refl
+three trueValue = refl
+three nullValue = refl
+
+module _ (p : Spans) (ok : Sane p) where
+  -- words 0 to 8
+  head-words : (kind parent stop next : ℕ)
+      → headWords kind parent (headBy (labelOf p) stop) next ≡ kind ∷ parent ∷ p .start ∷ stop ∷ p .key ∷ p .keyend ∷ p .name ∷ p .nameend ∷ next ∷ []
+  unfolding headWords headBy labelOf
+  head-words kind parent stop next =
+      λ i. kind ∷ parent ∷ p .start ∷ stop ∷ (span-words (p .key) (p .keyend) (ok .keys) i ++ (span-words (p .name) (p .nameend) (ok .names) i ++ (next ∷ [])))
+
+  pub leaf-row : (parent n stop : ℕ) (v : Scalar) (l : Leaf) → l ≡ leafOf v
+      → rowWords (l .kind) parent p stop (n + 1) (l .a) (l .b) (l .c) ≡ rows parent n (leaf (headBy (labelOf p) stop) v)
+  unfolding rows leafOf
+  leaf-row parent n stop v l e =
+      ap (λ (x : Leaf). rowWords (x .kind) parent p stop (n + 1) (x .a) (x .b) (x .c)) e
+      ∙ ap (λ (k : ℕ). rowWords (scalarNumber v) parent p stop k (getD (scalarWords v) 0 0) (getD (scalarWords v) 1 0) (getD (scalarWords v) 2 0)) (add-one n)
+      ∙ sym (λ i. head-words (scalarNumber v) parent stop (suc n) i ++ three v i)
+
+  -- a container's row, and its children's rows after it
+  pub branch-row : (parent n stop m z : ℕ) (kind : Kind) (ts : Forest) → m ≡ n + 1 + sizes ts → z ≡ count ts
+      → rowWords (kindNumber kind) parent p stop m z 0 0 ++ rowsAll n (n + 1) ts ≡ rows parent n (branch (headBy (labelOf p) stop) kind ts)
+  unfolding rows
+  branch-row parent n stop m z kind ts g c =
+      let e : m ≡ suc n + sizes ts = omega arith in
+      (λ i. rowWords (kindNumber kind) parent p stop (e i) (c i) 0 0 ++ rowsAll n (add-one n i) ts)
+      ∙ sym (λ i. head-words (kindNumber kind) parent stop (suc n + sizes ts) i ++ (count ts ∷ 0 ∷ 0 ∷ rowsAll n (suc n) ts))
+
+-- ---- the container's loop
+
+-- one child more
+pub glue : (tin tab out : List ℕ) (n m : ℕ) (ts : Forest) (t : Tree) → m ≡ n + 1 + sizes ts → tab ≡ sets tin (12 * (n + 1)) (rowsAll n (n + 1) ts)
+    → out ≡ sets tab (12 * m) (rows n m t) → out ≡ sets tin (12 * (n + 1)) (rowsAll n (n + 1) (snoc ts t))
+glue tin tab out n m ts t g w v =
+    let k : 12 * m ≡ 12 * (n + 1) + length (rowsAll n (n + 1) ts) = omega (arith, length-rowsAll n (n + 1) ts) in
+    v
+    ∙ ap (λ (l : List ℕ). sets l (12 * m) (rows n m t)) w
+    ∙ (λ i. sets (sets tin (12 * (n + 1)) (rowsAll n (n + 1) ts)) (k i) (rows n (g i) t))
+    ∙ sym (sets-append tin (12 * (n + 1)) (rowsAll n (n + 1) ts) (rows n (n + 1 + sizes ts) t))
+    ∙ ap (sets tin (12 * (n + 1))) (sym (rowsAll-snoc n (n + 1) ts t))
+
+-- the row of a container, written after those of its children
+pub crown : (tin tab out : List ℕ) (p : Spans) → Sane p → (kind : Kind) (word parent n m z stop : ℕ) (ts : Forest) → word ≡ kindNumber kind → m ≡ n + 1 + sizes ts → z ≡ count ts
+    → tab ≡ sets tin (12 * (n + 1)) (rowsAll n (n + 1) ts) → out ≡ sets tab (12 * n) (rowWords word parent p stop m z 0 0)
+    → out ≡ sets tin (12 * n) (rows parent n (branch (headBy (labelOf p) stop) kind ts))
+crown tin tab out p ok kind word parent n m z stop ts f g c w v =
+    let k : 12 * (n + 1) ≡ 12 * n + 12 = omega arith in
+    v
+    ∙ ap (λ (x : ℕ). sets tab (12 * n) (rowWords x parent p stop m z 0 0)) f
+    ∙ ap (λ (l : List ℕ). sets l (12 * n) (rowWords (kindNumber kind) parent p stop m z 0 0)) w
+    ∙ sets-swap (rowWords (kindNumber kind) parent p stop m z 0 0) tin (12 * n) (12 * (n + 1)) (rowsAll n (n + 1) ts) (omega arith)
+    ∙ ap (λ (x : ℕ). sets (sets tin (12 * n) (rowWords (kindNumber kind) parent p stop m z 0 0)) x (rowsAll n (n + 1) ts)) k
+    ∙ sym (sets-append tin (12 * n) (rowWords (kindNumber kind) parent p stop m z 0 0) (rowsAll n (n + 1) ts))
+    ∙ ap (sets tin (12 * n)) (branch-row p ok parent n stop m z kind ts g c)
+
+-- ---- the end of an identifier's bracket: word 3
+
+set-third : (l : List ℕ) (i a b c d x : ℕ) (vs : List ℕ) → set (sets l i (a ∷ b ∷ c ∷ d ∷ vs)) (i + 3) x ≡ sets l i (a ∷ b ∷ c ∷ x ∷ vs)
+set-third l i a b c d x vs =
+    let e : i + 3 ≡ suc (suc (suc i)) = omega arith in
+    rw e
+    (set-sets vs (set (set (set (set l i a) (suc i) b) (suc (suc i)) c) (suc (suc (suc i))) d) (suc (suc (suc i))) (suc (suc (suc (suc i)))) x (omega arith)
+    ∙ ap (λ (y : List ℕ). sets y (suc (suc (suc (suc i)))) vs) (set-set (set (set (set l i a) (suc i) b) (suc (suc i)) c) (suc (suc (suc i))) d x))
+  where
+    set-set : (y : List ℕ) (j u v : ℕ) → set (set y j u) j v ≡ set y j v
+    set-set [] j u v = refl
+    set-set (h ∷ y) zero u v = refl
+    set-set (h ∷ y) (suc j) u v = ap (λ (r : List ℕ). h ∷ r) (set-set y j u v)
+
+pub stop-row : (tin tab out : List ℕ) (parent n stop : ℕ) (t : Tree) → tab ≡ sets tin (12 * n) (rows parent n t) → out ≡ set tab (12 * n + 3) stop
+    → out ≡ sets tin (12 * n) (rows parent n (withStop stop t))
+unfolding rows withStop stopAt headWords
+stop-row tin tab out parent n stop (leaf h s) w v =
+    v ∙ ap (λ (l : List ℕ). set l (12 * n + 3) stop) w
+    ∙ set-third tin (12 * n) (scalarNumber s) parent (h .value .start) (h .value .stop) stop (spanWords (h .key) ++ (spanWords (h .name) ++ (suc n ∷ [])) ++ scalarWords s)
+stop-row tin tab out parent n stop (branch h k f) w v =
+    v ∙ ap (λ (l : List ℕ). set l (12 * n + 3) stop) w
+    ∙ set-third tin (12 * n) (kindNumber k) parent (h .value .start) (h .value .stop) stop
+    (spanWords (h .key) ++ (spanWords (h .name) ++ ((suc n + sizes f) ∷ [])) ++ (count f ∷ 0 ∷ 0 ∷ rowsAll n (suc n) f))
+
+-- ---- what the row of a tree says of its key and of the node after it
+
+pub size-pos : (t : Tree) → 0 < size t
+unfolding size
+size-pos (leaf h s) = omega arith
+size-pos (branch h k f) = omega arith
+
+row-says-words : (parent n a b : ℕ) (t : Tree) → headOf t .key ≡ spanAt a b → (b ≡ 0 → a ≡ 0)
+    → (getD (rows parent n t) 4 0 ≡ a) × (getD (rows parent n t) 5 0 ≡ b)
+unfolding rows headOf headWords
+row-says-words parent n a b (leaf h s) e ok = (ap key4 (words e ok), ap key5 (words e ok))
+  where
+    words : h .key ≡ spanAt a b → (b ≡ 0 → a ≡ 0) → spanWords (h .key) ≡ a ∷ b ∷ []
+    words q o = ap spanWords q ∙ span-words a b o
+
+    key4 : List ℕ → ℕ
+    key4 k = getD (k ++ (spanWords (h .name) ++ (suc n ∷ [])) ++ scalarWords s) 0 0
+
+    key5 : List ℕ → ℕ
+    key5 k = getD (k ++ (spanWords (h .name) ++ (suc n ∷ [])) ++ scalarWords s) 1 0
+row-says-words parent n a b (branch h k f) e ok = (ap key4 (words e ok), ap key5 (words e ok))
+  where
+    words : h .key ≡ spanAt a b → (b ≡ 0 → a ≡ 0) → spanWords (h .key) ≡ a ∷ b ∷ []
+    words q o = ap spanWords q ∙ span-words a b o
+
+    key4 : List ℕ → ℕ
+    key4 y = getD (y ++ (spanWords (h .name) ++ ((suc n + sizes f) ∷ [])) ++ (count f ∷ 0 ∷ 0 ∷ rowsAll n (suc n) f)) 0 0
+
+    key5 : List ℕ → ℕ
+    key5 y = getD (y ++ (spanWords (h .name) ++ ((suc n + sizes f) ∷ [])) ++ (count f ∷ 0 ∷ 0 ∷ rowsAll n (suc n) f)) 1 0
+
+firstOf : Option Span → ℕ
+firstOf none = 0
+firstOf (some s) = s .start
+
+secondOf : Option Span → ℕ
+secondOf none = 0
+secondOf (some s) = s .stop
+
+two : (o : Option Span) → spanWords o ≡ firstOf o ∷ secondOf o ∷ []
+unfolding spanWords firstOf secondOf
+two none = refl
+two (some s) = refl
+
+row-next : (parent n : ℕ) (t : Tree) → getD (rows parent n t) 8 0 ≡ n + size t
+unfolding rows headWords size
+row-next parent n (leaf h s) =
+    let e : suc n ≡ n + 1 = omega arith in
+    (λ i. getD (two (h .key) i ++ (two (h .name) i ++ (suc n ∷ [])) ++ scalarWords s) 4 0) ∙ e
+row-next parent n (branch h k f) =
+    let e : suc n + sizes f ≡ n + suc (sizes f) = omega arith in
+    (λ i. getD (two (h .key) i ++ (two (h .name) i ++ ((suc n + sizes f) ∷ [])) ++ (count f ∷ 0 ∷ 0 ∷ rowsAll n (suc n) f)) 4 0) ∙ e
+
+-- the row of a tree that was written as node m
+pub row-says : (tab out : List ℕ) (parent m a b : ℕ) (t : Tree) → headOf t .key ≡ spanAt a b → (b ≡ 0 → a ≡ 0) → 12 * m + 12 * size t ≤ length tab
+    → out ≡ sets tab (12 * m) (rows parent m t) → RowSays out m (m + size t) a b
+row-says tab out parent m a b t e ok h w =
+    record {
+      next-is = word 8 (omega (arith, size-pos t)) ∙ row-next parent m t;
+      start-is = word 4 (omega (arith, size-pos t)) ∙ row-says-words parent m a b t e ok .0;
+      end-is = word 5 (omega (arith, size-pos t)) ∙ row-says-words parent m a b t e ok .1;
+    }
+  where
+    word : (k : ℕ) → k < 12 * size t → getD out (12 * m + k) 0 ≡ getD (rows parent m t) k 0
+    word k l =
+        ap (λ (x : List ℕ). getD x (12 * m + k) 0) w
+        ∙ getD-in (rows parent m t) tab (12 * m) k (omega (arith, length-rows parent m t)) (omega (arith, length-rows parent m t))

@@ -1,0 +1,30 @@
+use native.Mathlib.Omega.{arith}
+use mathlib.Core.Path.{ap, _∙_}
+use mir.Facts.{toZ-ofZ}
+use Rattle.reader.specs.Tree.{twosComplement}
+use Rattle.reader.proofs.BeginLaws.{integer-words}
+use borrow.Author.Needs.{needs}
+use Rattle.reader.proofs.begin.integer_leaf.Statement.{statement}
+use Rattle.reader.proofs.begin.integer_leaf.Tie as tie
+use Rattle.reader.proofs.begin.integer_leaf.Reads as reads
+use Rattle.reader.proofs.begin.integer_leaf.Lts as lts
+use Rattle.reader.proofs.begin.bits_of.Reads as bits-of-reads
+
+-- src/begin.rt:47:9
+bits-of-requires : tie.Need-bits-of-requires
+bits-of-requires c κs = search needs
+
+-- src/begin.rt:50:12
+cast-t4 : tie.Need-cast-t4
+cast-t4 c = omega arith
+
+-- src/begin.rt:51:12
+cast-t6 : tie.Need-cast-t6
+cast-t6 c = omega arith
+
+-- src/begin.rt:44:1
+returns : tie.Need-returns
+returns c = integer-words (c .bits-of .result) (c .before .args .z) (c .bits-of .ensures ∙ ap twosComplement (toZ-ofZ (c .before .fits .z)))
+
+pub integer-leaf-spec : {M : Type 1} → statement M
+integer-leaf-spec = tie.close (tie.spec bits-of-requires cast-t4 cast-t6 returns)

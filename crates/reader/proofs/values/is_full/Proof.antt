@@ -1,0 +1,17 @@
+use native.Mathlib.Omega.{arith}
+use borrow.Author.Needs.{needs}
+use Rattle.reader.proofs.values.is_full.Statement.{statement}
+use Rattle.reader.proofs.values.is_full.Tie as tie
+use Rattle.reader.proofs.values.is_full.Reads as reads
+use Rattle.reader.proofs.values.is_full.Lts as lts
+
+-- src/values.rt:61:9
+returns : tie.Need-returns
+returns c = rw (c .before .if1 .taken)
+
+-- src/values.rt:57:1
+returns-2 : tie.Need-returns-2
+returns-2 c = rw (c .if1 .left)
+
+pub is-full-spec : {M : Type 1} → statement M
+is-full-spec = tie.close (tie.spec returns returns-2)

@@ -1,0 +1,44 @@
+// The content call: the content of a string or key, given the text and a span.
+ghost use mathlib.Core.Path.{_≡_};
+ghost use lib.ListN.{length};
+ghost use Rattle.reader.specs.Content.{contentAlone, fitting, contentCall, answered, written};
+use lexer::token::put_token;
+use literals::content::Written;
+use text::switches::Switches;
+use text::utf8::valid_front;
+
+// How many bytes were written, or the number of the refusal, 19 or 20.
+pub enum Given {
+    Bytes(usize),
+    Refused(u8),
+}
+
+// Writes the content of a token at the output's front, if the bytes are one string or key and the output has room for it.
+fn token_content(sw: Switches, token: &[u8], out: &mut [u8]) -> Given
+    ensures { λ r. ⌜ (r ≡ answered (fitting (length (now (out .entry))) (contentAlone sw (now (token .entry))))) × (now (out .exit) ≡ written (fitting (length (now (out .entry))) (contentAlone sw (now (token .entry)))) (now (out .entry))) ⌝ }
+{
+    if valid_front(token) != token.len() {
+        return Given::Refused(19);
+    }
+    match put_token(sw, token, out) {
+        Written::Bytes(n) => Given::Bytes(n),
+        Written::NoRoom => Given::Refused(20),
+        Written::Refused => Given::Refused(19),
+    }
+}
+
+// Writes the content of the string or key that stands in the text from `start` to before `end` at the output's front.
+pub fn content(sw: Switches, text: &[u8], start: usize, end: usize, out: &mut [u8]) -> Given
+    ensures { λ r. ⌜ (r ≡ answered (contentCall sw start end (now (text .entry)) (now (out .entry)))) × (now (out .exit) ≡ written (contentCall sw start end (now (text .entry)) (now (out .entry))) (now (out .entry))) ⌝ }
+{
+    if end < start {
+        return Given::Refused(19);
+    }
+    if text.len() < end {
+        return Given::Refused(19);
+    }
+    if 65536 < end - start {
+        return Given::Refused(19);
+    }
+    token_content(sw, &text[start..end], out)
+}
