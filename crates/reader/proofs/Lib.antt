@@ -15,3 +15,4 @@ pub mod ValueRun
 pub mod ContentLaws
 pub mod Computing
 pub mod Cases
+pub mod ReadRun

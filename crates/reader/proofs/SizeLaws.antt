@@ -17,7 +17,7 @@ use Rattle.text.proofs.Choice.{cond-both}
 use Rattle.reader.specs.Tree.{Span, Tree, leaf, branch, Forest, nil, cons, snoc, count, size, sizes, rows, rowsAll, padded, noParent, nodeWords}
 use Rattle.reader.specs.declared.tree.Limits.{Limits}
 use Rattle.reader.specs.Syntax.{Label, Frame, Slot, first, lone, after, more, Mode, value, named, inner, close, inside, colon, done, Config, Step, go, refuse, Begins, container, scalar, identifier, nothing, spanOf, isMark, closer, isObject, keyOf, begins, headBy, withStop, label, finished, ended, goTo, refuseIf, isComma, emptyByComma, holds, keyStep, closeOr, noNode, counted, valueStep, freshValue, childStep, slotStep, modeStep, step, Outcome, taken, refused, atEnd, afterStep, run, before}
-use Rattle.reader.specs.Reading.{outcome, reading, limitsOf, nodeCount, tableOf, maxText}
+use Rattle.reader.specs.Reading.{outcome, reading, nodeLimit, limitsOf, nodeCount, tableOf, maxText}
 use Rattle.reader.proofs.SpanLaws.{length-rows}
 
 pub sizes-snoc : (f : Forest) (t : Tree) → sizes (snoc f t) ≡ sizes f + size t
@@ -206,7 +206,7 @@ outcome-count limits (refused number place) h = zero-le
 
 -- "nodes at most the smaller of 4,096 and the lent table's words divided by 12"
 pub count-law : (sw : Switches) (words : ℕ) (text : List ℕ) → nodeCount (reading sw words text) ≤ min 4096 (words / nodeWords)
-unfolding reading limitsOf
+unfolding reading limitsOf nodeLimit
 count-law sw words text = outcome-count (limitsOf words) (outcome sw false (limitsOf words) text) (outcome-fits (limitsOf words) sw false text)
 
 table-length : (words : ℕ) (o : Outcome) → nodeCount o ≤ words / nodeWords → length (tableOf words o) ≡ words

@@ -10,6 +10,8 @@ use Rattle.text.specs.Utf8.{utf8, isWhole, wholeFront}
 use Rattle.lexer.specs.Token.{tokens}
 use Rattle.reader.specs.Tree.{headOf, size, rows, padded, nodeWords, noParent}
 use Rattle.reader.specs.declared.tree.Limits.{Limits}
+use Rattle.reader.specs.declared.read.Reading.{Reading}
+use Rattle.reader.specs.declared.read.Reading.the-variants as R
 use Rattle.reader.specs.Syntax.{Outcome, taken, refused, run, before}
 
 -- ---- sizes
@@ -26,8 +28,11 @@ maxDepth = 32
 abbrev pub maxNodes : ℕ
 maxNodes = 4096
 
+unfoldable pub nodeLimit : (words : ℕ) → ℕ
+nodeLimit words = min maxNodes (words / nodeWords)
+
 unfoldable pub limitsOf : (words : ℕ) → Limits
-limitsOf words = record { depth = maxDepth; nodes = min maxNodes (words / nodeWords) }
+limitsOf words = record { depth = maxDepth; nodes = nodeLimit words }
 
 -- "taken alone with 4,096 nodes"
 unfoldable pub limitsAlone : Limits
@@ -62,6 +67,11 @@ nodeCount (refused number place) = 0
 unfoldable pub tableOf : (words : ℕ) → Outcome → List ℕ
 tableOf words (taken tree) = padded words (rows noParent 0 tree)
 tableOf words (refused number place) = replicate words 0
+
+-- the code's answer, src/read.rt: the node count, or document 01's number and place of the refusal
+unfoldable pub answerOf : Outcome → Reading
+answerOf (taken tree) = R.Taken (size tree)
+answerOf (refused number place) = R.Refused number place
 
 -- word `i` of a node in a table
 abbrev pub wordOf : List ℕ → (node i : ℕ) → ℕ
