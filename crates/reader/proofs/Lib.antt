@@ -16,3 +16,4 @@ pub mod ContentLaws
 pub mod Computing
 pub mod Cases
 pub mod ReadRun
+pub mod PlaceBound

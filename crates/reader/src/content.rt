@@ -1,10 +1,12 @@
 // The content call: the content of a string or key, given the text and a span.
 ghost use mathlib.Core.Path.{_≡_};
 ghost use lib.ListN.{length};
+ghost use Rattle.text.specs.Switches.{presentEdition};
 ghost use Rattle.reader.specs.Content.{contentAlone, fitting, contentCall, answered, written};
 use lexer::token::put_token;
 use literals::content::Written;
 use text::switches::Switches;
+use text::switches::present;
 use text::utf8::valid_front;
 
 // How many bytes were written, or the number of the refusal, 19 or 20.
@@ -27,8 +29,9 @@ fn token_content(sw: Switches, token: &[u8], out: &mut [u8]) -> Given
     }
 }
 
-// Writes the content of the string or key that stands in the text from `start` to before `end` at the output's front.
-pub fn content(sw: Switches, text: &[u8], start: usize, end: usize, out: &mut [u8]) -> Given
+// Writes the content of the string or key that stands in the text, of the edition that `sw` says, from `start` to before `end` at the
+// output's front.
+pub fn content_edition(sw: Switches, text: &[u8], start: usize, end: usize, out: &mut [u8]) -> Given
     ensures { λ r. ⌜ (r ≡ answered (contentCall sw start end (now (text .entry)) (now (out .entry)))) × (now (out .exit) ≡ written (contentCall sw start end (now (text .entry)) (now (out .entry))) (now (out .entry))) ⌝ }
 {
     if end < start {
@@ -41,4 +44,11 @@ pub fn content(sw: Switches, text: &[u8], start: usize, end: usize, out: &mut [u
         return Given::Refused(19);
     }
     token_content(sw, &text[start..end], out)
+}
+
+// The same for a text of the present edition.
+pub fn content(text: &[u8], start: usize, end: usize, out: &mut [u8]) -> Given
+    ensures { λ r. ⌜ (r ≡ answered (contentCall presentEdition start end (now (text .entry)) (now (out .entry)))) × (now (out .exit) ≡ written (contentCall presentEdition start end (now (text .entry)) (now (out .entry))) (now (out .entry))) ⌝ }
+{
+    content_edition(present(), text, start, end, out)
 }

@@ -1,53 +1,27 @@
 use native.Mathlib.Omega.{arith}
-use Rattle.reader.proofs.ContentLaws.{backwards, past, long, spanned}
 use borrow.Author.Needs.{needs}
 use Rattle.reader.proofs.content.content.Statement.{statement}
 use Rattle.reader.proofs.content.content.Tie as tie
 use Rattle.reader.proofs.content.content.Reads as reads
 use Rattle.reader.proofs.content.content.Lts as lts
-use Rattle.reader.proofs.content.token_content.Reads as token-content-reads
+use Rattle.reader.proofs.content.content_edition.Reads as content-edition-reads
+use Rattle.text.proofs.switches.present.Reads as present-reads
 
--- src/content.rt:35:9
-returns : tie.Need-returns
-returns c = backwards (c .before .before .before .args .sw) (c .before .before .before .args .start) (c .before .before .before .args .end) (c .before .before .before .args .text .now) (c .before .before .before .args .out .now) (omega arith)
+-- src/content.rt:53:21
+present-requires : tie.Need-present-requires
+present-requires c κs = search needs
 
--- src/content.rt:38:9
-returns-2 : tie.Need-returns-2
-returns-2 c = past (c .before .before .before .before .args .sw) (c .before .before .before .before .args .start) (c .before .before .before .before .args .end) (c .before .before .before .before .args .text .now) (c .before .before .before .before .args .out .now) (omega arith) (omega arith)
+-- src/content.rt:53:5
+content-edition-requires : tie.Need-content-edition-requires
+content-edition-requires c κs = search needs
 
--- src/content.rt:41:9
-returns-3 : tie.Need-returns-3
-returns-3 c = long (c .before .before .before .before .before .args .sw) (c .before .before .before .before .before .args .start) (c .before .before .before .before .before .args .end) (c .before .before .before .before .before .args .text .now) (c .before .before .before .before .before .args .out .now) (omega arith) (omega arith) (omega arith)
-
--- src/content.rt:43:23
-part-token-content-start : tie.Need-part-token-content-start
-part-token-content-start c = omega arith
-
--- src/content.rt:43:23
-part-token-content-end : tie.Need-part-token-content-end
-part-token-content-end c = omega arith
-
--- src/content.rt:43:5
-token-content-requires : tie.Need-token-content-requires
-token-content-requires c κs = search needs
-
--- src/content.rt:31:1
+-- src/content.rt:50:1
 same-length : tie.Need-same-length
 same-length c = omega arith
 
--- src/content.rt:31:1
-returns-4 : tie.Need-returns-4
-returns-4 c = rw (spanned (c .before .before .before .before .before .before .before .before .before .before .args .sw) (c .before .before .before .before .before .before .before .before .before .before .args .start) (c .before .before .before .before .before .before .before .before .before .before .args .end) (c .before .before .before .before .before .before .before .before .before .before .args .text .now) (c .before .before .before .before .before .before .before .before .before .before .args .out .now) (omega arith) (omega arith) (omega arith)) (c .before .before .token-content .ensures)
+-- src/content.rt:50:1
+returns : tie.Need-returns
+returns c = rw (c .before .before .before .before .present .ensures) at (c .before .before .content-edition .ensures)
 
 pub content-spec : {M : Type 1} → statement M
-content-spec =
-    tie.close
-    (tie.spec
-    returns
-    returns-2
-    returns-3
-    part-token-content-start
-    part-token-content-end
-    token-content-requires
-    same-length
-    returns-4)
+content-spec = tie.close (tie.spec present-requires content-edition-requires same-length returns)
