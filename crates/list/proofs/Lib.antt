@@ -1,0 +1,2 @@
+-- The laws by which this crate's functions are safe.
+pub mod ListingLaws

@@ -1,0 +1,60 @@
+use native.Mathlib.Omega.{arith}
+use Rattle.list.proofs.ListingLaws.{rows-inside}
+use borrow.Author.Needs.{needs}
+use Rattle.list.proofs.listing.list.Statement.{statement}
+use Rattle.list.proofs.listing.list.Tie as tie
+use Rattle.list.proofs.listing.list.Reads as reads
+use Rattle.list.proofs.listing.list.Lts as lts
+use Rattle.list.proofs.listing.nodes.Reads as nodes-reads
+use Rattle.list.proofs.listing.refused.Reads as refused-reads
+use Rattle.reader.proofs.read.read.Reads as read-reads
+
+-- src/listing.rt:49:22
+slice-aggregate-read : tie.Need-slice-aggregate-read
+slice-aggregate-read c = search needs
+
+-- src/listing.rt:49:11
+read-requires : tie.Need-read-requires
+read-requires c κs = search needs
+
+-- src/listing.rt:50:24
+enum-known-count : tie.Need-enum-known-count
+enum-known-count c = search needs
+
+-- src/listing.rt:50:40
+slice-aggregate-nodes : tie.Need-slice-aggregate-nodes
+slice-aggregate-nodes c = search needs
+
+-- src/listing.rt:50:34
+nodes-requires : tie.Need-nodes-requires
+nodes-requires c κs = rows-inside _ _ _ _ _ (c .before .before .count .given .0 .0) (c .before .before .before .before .before .read .ensures .0) (c .before .before .count .given .1) (c .before .before .before .before .before .read .ensures .1)
+
+-- src/listing.rt:51:26
+enum-known-number : tie.Need-enum-known-number
+enum-known-number c = search needs
+
+-- src/listing.rt:51:44
+refused-requires : tie.Need-refused-requires
+refused-requires c κs = search needs
+
+-- src/listing.rt:47:1
+returns : tie.Need-returns
+returns c = search needs
+
+-- src/listing.rt:47:1
+returns-2 : tie.Need-returns-2
+returns-2 c = search needs
+
+pub list-spec : {M : Type 1} → statement M
+list-spec =
+    tie.close
+    (tie.spec
+    slice-aggregate-read
+    read-requires
+    enum-known-count
+    slice-aggregate-nodes
+    nodes-requires
+    enum-known-number
+    refused-requires
+    returns
+    returns-2)
