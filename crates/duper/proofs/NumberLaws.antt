@@ -1,0 +1,66 @@
+-- What the code's answer says of the specification's: its number, and the bound on a refusal's place.
+-- Assumes nothing.
+use mathlib.Core.Path.{_≡_, refl, sym, ap, _∙_, subst}
+use Prim.Native.Nat.{ℕ, _+_, _*_, _≤_}
+use native.Mathlib.Omega.{arith}
+use mathlib.Core.List.{List}
+use Rattle.text.specs.declared.switches.Switches.{Switches}
+use Rattle.reader.specs.Syntax.{Outcome, taken, refused}
+use Rattle.reader.specs.Reading.{reading, answerOf}
+use Rattle.reader.specs.declared.read.Reading.{Reading}
+use Rattle.reader.specs.declared.read.Reading.the-variants as R
+use Rattle.reader.specs.Content as C
+use Rattle.reader.specs.Content.{Answer, answered, contentNumber}
+use Rattle.reader.specs.declared.content.Given.{Given}
+use Rattle.reader.specs.declared.content.Given.the-variants as G
+use Rattle.reader.proofs.PlaceBound.{PlaceWithin, place-law}
+use Rattle.duper.specs.Numbers.{readNumber}
+
+-- the number of the code's answer to a reading, and to a content call
+readPacked : Reading → ℕ
+readPacked (R.Taken nodes) = nodes
+readPacked (R.Refused number place) = number * 4294967296 + place
+
+contentPacked : Given → ℕ
+contentPacked (G.Bytes count) = count
+contentPacked (G.Refused number) = number * 4294967296
+
+read-packed : (o : Outcome) → readPacked (answerOf o) ≡ readNumber o
+unfolding answerOf readNumber readPacked
+read-packed (taken tree) = refl
+read-packed (refused number place) = refl
+
+content-packed : (a : Answer) → contentPacked (answered a) ≡ contentNumber a
+unfolding answered contentNumber contentPacked
+content-packed (C.given content) = refl
+content-packed (C.refused number) = refl
+
+pub taken-number : (nodes : ℕ) (o : Outcome) → R.Taken nodes ≡ answerOf o → nodes ≡ readNumber o
+unfolding readPacked
+taken-number nodes o e = ap readPacked e ∙ read-packed o
+
+pub refused-number : (number place : ℕ) (o : Outcome) → R.Refused number place ≡ answerOf o → number * 4294967296 + place ≡ readNumber o
+unfolding readPacked
+refused-number number place o e = ap readPacked e ∙ read-packed o
+
+pub given-number : (count : ℕ) (a : Answer) → G.Bytes count ≡ answered a → count ≡ contentNumber a
+unfolding contentPacked
+given-number count a e = ap contentPacked e ∙ content-packed a
+
+pub declined-number : (number : ℕ) (a : Answer) → G.Refused number ≡ answered a → number * 4294967296 ≡ contentNumber a
+unfolding contentPacked
+declined-number number a e = ap contentPacked e ∙ content-packed a
+
+-- a refusal's place in the code's answer is at most 65536
+placeOf : Reading → ℕ
+placeOf (R.Taken nodes) = 0
+placeOf (R.Refused number place) = place
+
+place-packed : (o : Outcome) → PlaceWithin 65536 o → placeOf (answerOf o) ≤ 65536
+unfolding answerOf PlaceWithin placeOf
+place-packed (taken tree) h = omega arith
+place-packed (refused number place) h = h
+
+pub place-small : (sw : Switches) (words : ℕ) (s : List ℕ) (number place : ℕ) → R.Refused number place ≡ answerOf (reading sw words s) → place ≤ 65536
+unfolding placeOf
+place-small sw words s number place e = subst (λ r. placeOf r ≤ 65536) (sym e) (place-packed (reading sw words s) (place-law sw words s))

@@ -1,0 +1,2 @@
+-- The numbers that the calls for C and Rust answer.
+pub mod Numbers

@@ -1,0 +1,32 @@
+// The calls for C and Rust: each answers one 64-bit number. A slice crosses as its pointer and its count of elements.
+ghost use mathlib.Core.Path.{_≡_};
+ghost use lib.ListN.{length};
+ghost use Rattle.text.specs.Switches.{presentEdition};
+ghost use Rattle.reader.specs.Reading.{reading, tableOf};
+ghost use Rattle.reader.specs.Content.{contentCall, written, contentNumber};
+ghost use Rattle.duper.specs.Numbers.{readNumber};
+use reader::content::Given;
+use reader::read::Reading;
+
+// Reads a text of the present edition into the table: the node count, or else the refusal times 4294967296 plus its place.
+#[no_mangle]
+pub extern "C" fn duper_read(text: &[u8], table: &mut [u32]) -> u64
+    ensures { λ r. ⌜ (r ≡ readNumber (reading presentEdition (length (now (table .entry))) (now (text .entry)))) × (now (table .exit) ≡ tableOf (length (now (table .entry))) (reading presentEdition (length (now (table .entry))) (now (text .entry)))) ⌝ }
+{
+    match reader::read::read(text, table) {
+        Reading::Taken(nodes) => nodes as u64,
+        Reading::Refused(number, place) => number as u64 * 4294967296 + place as u64,
+    }
+}
+
+// Writes the content of the string or key that stands in the text from `start` to before `end` at the output's front: the bytes written,
+// or else the refusal times 4294967296.
+#[no_mangle]
+pub extern "C" fn duper_content(text: &[u8], start: u64, end: u64, out: &mut [u8]) -> u64
+    ensures { λ r. ⌜ (r ≡ contentNumber (contentCall presentEdition start end (now (text .entry)) (now (out .entry)))) × (now (out .exit) ≡ written (contentCall presentEdition start end (now (text .entry)) (now (out .entry))) (now (out .entry))) ⌝ }
+{
+    match reader::content::content(text, start as usize, end as usize, out) {
+        Given::Bytes(count) => count as u64,
+        Given::Refused(number) => number as u64 * 4294967296,
+    }
+}

@@ -1,0 +1,117 @@
+//! The wrapper over the real archive: document 01's examples and the edges of
+//! the boundary.
+
+use duper::{content, nodes, read, Decimal, Document, Kind, Refusal, Value, ROW};
+
+fn refusal(number: u32, place: u32) -> Refusal {
+    Refusal { number, place }
+}
+
+#[test]
+fn documents_of_the_paper() {
+    let mut table = [9; 40];
+    assert_eq!(read(b"[1, null]", &mut table), Ok(3));
+    assert!(table[3 * ROW..].iter().all(|&word| word == 0));
+    let listed: Vec<_> = nodes(&table).map(|node| (node.kind(), node.span())).collect();
+    assert_eq!(listed, [(Kind::Array, 0..9), (Kind::Integer, 1..2), (Kind::Null, 4..8)]);
+    for (text, number, place) in [
+        (&b""[..], 7, 0),
+        (b"[,,]", 7, 2),
+        (br#"{a:1,"\x61":2}"#, 8, 5),
+        (b"A(B([]))", 7, 2),
+        (b"[00]", 3, 1),
+        (br#"[b64"ZHVwZXI=="]"#, 4, 1),
+        (b"[9223372036854775808]", 5, 1),
+        (b"['", 6, 1),
+        (b"[1,2,3]", 10, 5),
+        (b"\xFF", 2, 0),
+    ] {
+        table.fill(9);
+        assert_eq!(read(text, &mut table), Err(refusal(number, place)), "{}", text.escape_ascii());
+        assert_eq!(table, [0; 40]);
+    }
+    assert_eq!(read(&[b' '; 65_537], &mut table), Err(refusal(1, 65_536)));
+    assert_eq!(read(&[b'['; 33], &mut vec![0; 33 * ROW]), Err(refusal(9, 32)));
+}
+
+#[test]
+fn empty_slices_are_fine() {
+    assert_eq!(read(b"", &mut []), Err(refusal(7, 0)));
+    assert_eq!(read(b"[]", &mut []), Err(refusal(10, 0)));
+    assert_eq!(read(&[], &mut [5; 3]), Err(refusal(7, 0)));
+    assert_eq!(content(b"", 0, 0, &mut []), Err(refusal(19, 0)));
+    assert_eq!(content(b"\"\"", 0, 2, &mut []), Ok(0));
+    assert_eq!(content(b"\"a\"", 0, 3, &mut []), Err(refusal(20, 0)));
+}
+
+#[test]
+fn contents() {
+    let mut out = [7; 6];
+    assert_eq!(content(br#"b64"ZHVwZXI""#, 0, 12, &mut out), Ok(5));
+    assert_eq!(&out, b"duper\x07");
+    for (start, end) in
+        [(1, 0), (0, 13), (usize::MAX, usize::MAX), (usize::MAX, 0), (0, usize::MAX)]
+    {
+        assert_eq!(content(br#"b64"ZHVwZXI""#, start, end, &mut out), Err(refusal(19, 0)));
+    }
+    assert_eq!(content(br#"b64"ZHVwZXI""#, 0, 12, &mut out[..4]), Err(refusal(20, 0)));
+    assert_eq!(&out, b"duper\x07");
+}
+
+#[test]
+fn a_document() {
+    let text =
+        br#"Top({ "k\x31": [-0.5, -9223372036854775808], b: B("\u00e9"), c: null, d: true })"#;
+    let document = Document::read(text).unwrap();
+    assert_eq!(document.len(), 7);
+    let root = document.root().unwrap();
+    assert_eq!(document.name(root), Some("Top"));
+    assert_eq!(root.value(), Value::Container { children: 4 });
+    assert_eq!((root.parent(), root.next()), (None, 7));
+    assert_eq!(document.written(root), Some(&text[..]));
+    let list = document.member(root, b"k1").unwrap();
+    let numbers: Vec<_> = document.children(list).map(|node| node.value()).collect();
+    let half = Decimal { minus: true, digits: 5, power: -1 };
+    assert_eq!(numbers, [Value::Decimal(half), Value::Integer(i64::MIN)]);
+    let b = document.member(root, b"b").unwrap();
+    assert_eq!(document.string(b).unwrap(), "é".as_bytes());
+    assert_eq!((document.name(b), b.content_length()), (Some("B"), Some(2)));
+    assert_eq!(document.written(b), Some(&br#"B("\u00e9")"#[..]));
+    let c = document.member(root, b"c").unwrap();
+    assert!(c.is_null());
+    assert_eq!((c.integer(), c.decimal(), c.bool(), document.string(c)), (None, None, None, None));
+    assert_eq!(document.member(root, b"d").unwrap().bool(), Some(true));
+    assert_eq!(document.member(root, b"e"), None);
+    assert_eq!(document.member(c, b"e"), None);
+    assert_eq!(document.node(7), None);
+    assert_eq!(document.node(usize::MAX), None);
+    assert_eq!(document.nodes().filter(|node| node.parent() == Some(0)).count(), 4);
+}
+
+#[test]
+fn nodes_of_another_document_do_no_harm() {
+    let long = Document::read(br#"[{ "a long key": "a long string" }, [1, 2, 3]]"#).unwrap();
+    let short = Document::read(b"[]").unwrap();
+    for node in long.nodes() {
+        assert_eq!(short.key(node), None);
+        assert_eq!(short.string(node), None);
+        assert_eq!(short.children(node).count(), 0);
+        short.written(node);
+        short.name(node);
+        short.member(node, b"a long key");
+    }
+}
+
+#[test]
+fn refusals_speak() {
+    let refused = Document::read(b"[1,,2]").unwrap_err();
+    assert_eq!(
+        refused.to_string(),
+        "a token is not allowed here, or the text ends early (refusal 7 at byte 3)"
+    );
+    let boxed: Box<dyn std::error::Error> = Box::new(refused);
+    assert!(boxed.to_string().contains("byte 3"));
+    // As many rows as bytes are always enough: nothing else becomes a 10.
+    assert_eq!(Document::read(b"[[[[").unwrap_err(), refusal(7, 4));
+    assert_eq!(Document::read_within(b"[[[[", 3).unwrap_err(), refusal(10, 3));
+}

@@ -1,0 +1,182 @@
+//! `bench [--clear] [--rounds N]`: nanoseconds a byte of both readers, on the
+//! same texts in one run, and their ratio.
+
+use std::fmt::Write as _;
+use std::hint::black_box;
+use std::time::{Duration, Instant};
+
+/// A text to time, and the table's length in words.
+struct Bench {
+    name: String,
+    text: Vec<u8>,
+    words: usize,
+}
+
+type Reader = fn(&[u8], &mut [u32]) -> Result<usize, (u32, u64)>;
+
+#[cfg(feature = "against")]
+const READERS: &[(&str, Reader)] = &[
+    ("duper", |text, table| {
+        duper::read(text, table).map_err(|refusal| (refusal.number, refusal.place.into()))
+    }),
+    ("second", trials::check::second_read),
+];
+#[cfg(not(feature = "against"))]
+const READERS: &[(&str, Reader)] = &[("second", trials::check::second_read)];
+
+/// Rows for every node a text can have.
+const FULL: usize = 4096 * 12;
+
+/// A season's records, as many as fit, then spaces up to the length.
+fn season(length: usize) -> Vec<u8> {
+    let mut text = String::from("// Bounce heights in millimetres.\nSeason([\n");
+    for ball in 0.. {
+        let height = match ball % 7 {
+            0 => "null".to_string(),
+            3 => format!("Millimetres({}.{})", ball % 900, ball % 10),
+            _ => format!("{}.{:02}", ball % 900, ball % 100),
+        };
+        let mut record = String::new();
+        let _ = writeln!(
+            record,
+            "  {{ ball: {ball}, rig: \"north end, camera 2\", height: {height}, \"pitch\\x20no\": {}, \
+             seen: true }}, // over {}",
+            ball % 30,
+            ball / 6
+        );
+        if text.len() + record.len() + 3 > length {
+            break;
+        }
+        text.push_str(&record);
+    }
+    text.push_str("])\n");
+    let mut text = text.into_bytes();
+    text.resize(length.max(text.len()), b' ');
+    text
+}
+
+/// The same as JSON would have it, within 4,096 nodes.
+fn json() -> Vec<u8> {
+    let mut text = String::from("[");
+    for number in 0..680 {
+        let comma = if number == 0 { "" } else { "," };
+        let _ = write!(
+            text,
+            "{comma}{{\"id\":{number},\"name\":\"record number {number}\",\"height\":{}.5,\
+             \"valid\":{},\"note\":null}}",
+            number % 400,
+            number % 2 == 0
+        );
+    }
+    text.push(']');
+    text.into_bytes()
+}
+
+fn benches() -> Vec<Bench> {
+    let mut benches = vec![
+        Bench { name: "season file".into(), text: season(65_536), words: FULL },
+        Bench { name: "JSON-like records".into(), text: json(), words: FULL },
+        Bench {
+            name: "one long string".into(),
+            text: format!("[\"{}\"]", "x".repeat(65_532)).into_bytes(),
+            words: FULL,
+        },
+        Bench {
+            name: "4,000 keys, one object".into(),
+            text: {
+                let keys: Vec<_> = (0..4000).map(|n| format!("key{n:04}:{}", n % 10)).collect();
+                format!("{{{}}}", keys.join(",")).into_bytes()
+            },
+            words: FULL,
+        },
+        Bench {
+            // With the array itself that makes 4,096 nodes.
+            name: "4,095 nulls, one array".into(),
+            text: format!("[{}null]", "null,".repeat(4094)).into_bytes(),
+            words: FULL,
+        },
+    ];
+    for kib in [1, 2, 4, 8, 16, 32, 64] {
+        let text = season(kib * 1024);
+        // Growth is shown with a table that grows along: one row for every 16
+        // bytes is what these records need.
+        let words = text.len() / 16 * 12;
+        benches.push(Bench { name: format!("season, {kib} KiB"), text, words });
+    }
+    benches
+}
+
+/// The median and least time of each reader, one after the other each round.
+fn time(bench: &Bench, rounds: usize, clear: bool) -> Vec<(Duration, Duration)> {
+    let mut tables = vec![vec![0u32; bench.words]; READERS.len()];
+    let mut times = vec![Vec::with_capacity(rounds); READERS.len()];
+    for round in 0..rounds + 2 {
+        for (at, (_, reader)) in READERS.iter().enumerate() {
+            if clear {
+                tables[at].fill(0);
+            }
+            let started = Instant::now();
+            let answer = reader(black_box(&bench.text), black_box(&mut tables[at]));
+            let taken = started.elapsed();
+            if let Err((number, place)) = answer {
+                panic!("{}: refused {number} {place}", bench.name);
+            }
+            // The first two rounds warm up.
+            if round >= 2 {
+                times[at].push(taken);
+            }
+        }
+    }
+    times
+        .into_iter()
+        .map(|mut times| {
+            times.sort();
+            (times[times.len() / 2], times[0])
+        })
+        .collect()
+}
+
+fn main() {
+    let mut clear = false;
+    let mut rounds = 100;
+    let mut arguments = std::env::args().skip(1);
+    while let Some(argument) = arguments.next() {
+        match argument.as_str() {
+            "--clear" => clear = true,
+            "--rounds" => {
+                let given = arguments.next().and_then(|given| given.parse().ok());
+                rounds = given.filter(|&given| given > 0).unwrap_or(rounds);
+            }
+            _ => {
+                eprintln!("usage: bench [--clear] [--rounds N]");
+                std::process::exit(2);
+            }
+        }
+    }
+    if clear {
+        println!("The table was cleared before each call, outside the time taken.");
+    } else {
+        println!("The table was not cleared before a call: it holds the last reading.");
+    }
+    println!("Each call writes every word of it, rows then zeros, within the time taken.");
+    println!("Nanoseconds a byte, median (least) of {rounds} rounds, readers in turn.");
+    print!("{:<24}{:>7}{:>7}{:>8}", "text", "bytes", "nodes", "words");
+    for (name, _) in READERS {
+        print!("{name:>18}");
+    }
+    println!("{}", if READERS.len() == 2 { "     ratio" } else { "" });
+    for bench in benches() {
+        let mut table = vec![0; bench.words];
+        let nodes = trials::check::second_read(&bench.text, &mut table).unwrap_or(0);
+        print!("{:<24}{:>7}{nodes:>7}{:>8}", bench.name, bench.text.len(), bench.words);
+        let times = time(&bench, rounds, clear);
+        let a_byte = |time: Duration| time.as_nanos() as f64 / bench.text.len() as f64;
+        for (median, least) in &times {
+            print!("{:>9.2} ({:>6.2})", a_byte(*median), a_byte(*least));
+        }
+        if let [(ours, _), (theirs, _)] = times[..] {
+            print!("{:>10.2}", ours.as_secs_f64() / theirs.as_secs_f64());
+        }
+        println!();
+    }
+}

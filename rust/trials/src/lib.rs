@@ -1,0 +1,16 @@
+//! Holds the reader of crate `duper` against the independent `second` one.
+//!
+//! [`random`], [`writer`] and [`texts`] make the cases and depend on no
+//! reader. [`check`] looks at one reader's answers alone: invariants, and what
+//! the making of a case tells beforehand. `against` compares both readers; it
+//! needs the feature of that name, on unless turned off, since it links the
+//! archive.
+
+#![forbid(unsafe_code)]
+
+#[cfg(feature = "against")]
+pub mod against;
+pub mod check;
+pub mod random;
+pub mod texts;
+pub mod writer;
