@@ -91,3 +91,7 @@ pub record PartIs (sw : Switches) (s : List ℕ) (p : Part) : Type 0 where
   pub forward : p .from ≤ p .to
   pub inside : p .to ≤ length s
   pub holds : contentOf sw (p .istext) (p .body) (take (p .to - p .from) (drop (p .from) s)) ≡ tokenContent sw s
+
+-- where r is true they are a word, and so their own content
+pub record WordIf (sw : Switches) (s : List ℕ) (r : Bool) : Type 0 where
+  pub own : r ≡ true → tokenContent sw s ≡ some s

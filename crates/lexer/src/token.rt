@@ -5,7 +5,7 @@ ghost use Prim.Native.Nat.{_<_, _+_};
 ghost use lib.ListN.{length, drop, getD};
 ghost use Rattle.literals.specs.Content.{fitted, placed, sameContent};
 ghost use Rattle.lexer.specs.Token.{stringItem, rawItem, smallItem, tokenContent};
-ghost use Rattle.lexer.specs.Internal.{isKeyKind, hasContent, Keyed, KeyedAs, PartIs};
+ghost use Rattle.lexer.specs.Internal.{isKeyKind, hasContent, Keyed, KeyedAs, PartIs, WordIf};
 use super::item::Found;
 use super::item::TokenKind;
 use super::item::byte_at;
@@ -18,6 +18,7 @@ use literals::compare::same_content;
 use literals::content::Written;
 use literals::content::write_content;
 use literals::decoder::Body;
+use text::bytes::same_bytes;
 use text::switches::Switches;
 
 // Where a string or key holds its content, and how it is decoded.
@@ -173,8 +174,30 @@ pub fn put_token(sw: Switches, token: &[u8], out: &mut [u8]) -> Written
     Written::Refused
 }
 
-// Whether two strings or keys have the same content. Public for the crates above only, which show that they are such.
-pub fn same_keys(sw: Switches, a: &[u8], b: &[u8]) -> bool
+// Whether a string or key is a word, by its first byte. False says nothing: words begin with `b` or `r` as strings do.
+fn is_word(sw: Switches, token: &[u8]) -> bool
+    requires { ⌜ Keyed sw (now token) ⌝ }
+    ensures { λ r. ⌜ WordIf sw (now (token .entry)) r ⌝ }
+{
+    let b = byte_at(token, 0);
+    let class = text::bytes::class_of(b);
+    if class == 5 {
+        return false;
+    }
+    if class == 3 {
+        if b == b'b' {
+            return false;
+        }
+        if b == b'r' {
+            return false;
+        }
+        return true;
+    }
+    true
+}
+
+// Whether two strings or keys have the same content, decoded side by side.
+fn same_parts(sw: Switches, a: &[u8], b: &[u8]) -> bool
     requires { ⌜ Keyed sw (now a) ⌝ }
     requires { ⌜ Keyed sw (now b) ⌝ }
     ensures { λ r. ⌜ r ≡ sameContent (tokenContent sw (now (a .entry))) (tokenContent sw (now (b .entry))) ⌝ }
@@ -188,4 +211,19 @@ pub fn same_keys(sw: Switches, a: &[u8], b: &[u8]) -> bool
     let bfrom = q.from;
     let bto = q.to;
     same_content(sw, abody, &a[afrom..ato], bbody, &b[bfrom..bto])
+}
+
+// Whether two strings or keys have the same content; two words are their own. Public for the crates above only, which show that
+// they are such.
+pub fn same_keys(sw: Switches, a: &[u8], b: &[u8]) -> bool
+    requires { ⌜ Keyed sw (now a) ⌝ }
+    requires { ⌜ Keyed sw (now b) ⌝ }
+    ensures { λ r. ⌜ r ≡ sameContent (tokenContent sw (now (a .entry))) (tokenContent sw (now (b .entry))) ⌝ }
+{
+    if is_word(sw, a) {
+        if is_word(sw, b) {
+            return same_bytes(a, b);
+        }
+    }
+    same_parts(sw, a, b)
 }

@@ -3,15 +3,14 @@
 use mathlib.Core.Path.{_≡_, refl, sym, ap, _∙_, subst}
 use Prim.Native.Nat.{ℕ, suc, _+_, _-_, _/_, _%_, _≤_, _<_}
 use native.Mathlib.Nat.{add-zero}
-use native.Mathlib.Numerals.{add-one}
 use native.Mathlib.Omega.{arith}
-use mathlib.Core.Bool.{Bool, true, false, cond, _&&_, false≢true}
+use mathlib.Core.Bool.{Bool, true, false, cond, false≢true}
 use mathlib.Core.List.{List, [], _∷_}
-use lib.Dec.{eqb, leb}
+use lib.Dec.{leb}
 use lib.IntN.{ℤ}
-use lib.ListN.{length, take, drop, getD, length-drop, drop-of-length-le}
+use lib.ListN.{length, take, drop, getD, length-drop}
 use lib.Seq.{drop-cons}
-use borrow.Author.Tests.{eq-eqb, ne-eqb, le-leb, lt-leb}
+use borrow.Author.Tests.{le-leb, lt-leb}
 use Rattle.text.specs.declared.switches.Switches.{Switches}
 use Rattle.text.specs.Bytes.{is, ascii, sameBytes}
 use Rattle.lexer.specs.declared.item.TokenKind.{TokenKind}
@@ -28,36 +27,6 @@ use Rattle.reader.specs.Tree.{Span, scalarNumber, scalarWords, twosCompl
 use Rattle.reader.specs.Syntax.{Begins, begins, container, scalar, identifier, nothing, markBegins, wordBegins, opensWithCapital, spanOf}
 use Rattle.reader.specs.Internal.Tokens.{formAt, tokenAt, TokenAt, leafOf, BeginIs, Begun, markBegin, wordBegin, DecimalFits}
 use Rattle.reader.proofs.KeepLaws.{Keeps, at-keeps}
-
--- ---- bytes against bytes
-
-pub differ-length : (a b : List ℕ) → (length a ≡ length b → ⊥) → false ≡ sameBytes a b
-unfolding sameBytes
-differ-length [] [] n = absurd (n refl)
-differ-length [] (y ∷ b) n = refl
-differ-length (x ∷ a) [] n = refl
-differ-length (x ∷ a) (y ∷ b) n = rw (← differ-length a b (λ (e : length a ≡ length b). n (ap suc e))) (both-false (eqb x y))
-  where
-    both-false : (t : Bool) → false ≡ (t && false)
-    both-false true = refl
-    both-false false = refl
-
-module _ (a b : List ℕ) (i : ℕ) where
-  split-same : i < length a → i < length b
-      → sameBytes (drop i a) (drop i b) ≡ (eqb (getD a i 0) (getD b i 0) && sameBytes (drop (i + 1) a) (drop (i + 1) b))
-  unfolding sameBytes
-  split-same h k = rw (drop-cons a i 0 h, drop-cons b i 0 k, add-one)
-
-  pub same-next : i < length a → i < length b → getD a i 0 ≡ getD b i 0
-      → sameBytes (drop i a) (drop i b) ≡ sameBytes (drop (i + 1) a) (drop (i + 1) b)
-  same-next h k e = split-same h k ∙ rw (eq-eqb (getD a i 0) (getD b i 0) e)
-
-  pub same-differ : i < length a → i < length b → (getD a i 0 ≡ getD b i 0 → ⊥) → sameBytes (drop i a) (drop i b) ≡ false
-  same-differ h k n = split-same h k ∙ rw (ne-eqb (getD a i 0) (getD b i 0) n)
-
-  pub same-done : length a ≤ i → length b ≤ i → sameBytes (drop i a) (drop i b) ≡ true
-  unfolding sameBytes
-  same-done h k = rw (drop-of-length-le a h, drop-of-length-le b k)
 
 -- ---- a word that opens with a capital
 

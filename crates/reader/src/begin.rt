@@ -5,7 +5,6 @@ ghost use Prim.Native.Nat.{_≤_};
 ghost use lib.IntN.{pos, negsuc};
 ghost use lib.ListN.{length};
 ghost use lib.Signed.{leZ};
-ghost use Rattle.text.specs.Bytes.{sameBytes};
 ghost use Rattle.reader.specs.Tree.{integer, decimal, twosComplement, plus1000};
 ghost use Rattle.reader.specs.Syntax.{opensWithCapital};
 ghost use Rattle.reader.specs.Internal.Tokens.{TokenAt, leafOf, Begun, markBegin, wordBegin, DecimalFits};
@@ -13,23 +12,8 @@ use super::tree::Begin;
 use super::tree::Kind;
 use super::tree::Leaf;
 use lexer::item::TokenKind;
+use text::bytes::same_bytes;
 use text::switches::Switches;
-
-fn same_bytes(a: &[u8], b: &[u8]) -> bool
-    ensures { λ r. ⌜ r ≡ sameBytes (now (a .entry)) (now (b .entry)) ⌝ }
-{
-    if a.len() != b.len() {
-        return false;
-    }
-    let mut i = 0;
-    while i < a.len() {
-        if a[i] != b[i] {
-            return false;
-        }
-        i += 1;
-    }
-    true
-}
 
 // ---- numbers
 

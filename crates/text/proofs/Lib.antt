@@ -4,3 +4,4 @@ pub mod Table
 pub mod ClassLaws
 pub mod FeedLaws
 pub mod Utf8Laws
+pub mod SameLaws

@@ -1,6 +1,6 @@
 // The class of a byte, and its value as a digit.
 ghost use mathlib.Core.Path.{_≡_};
-ghost use Rattle.text.specs.Bytes.{classOf, classNumber, digitValue};
+ghost use Rattle.text.specs.Bytes.{classOf, classNumber, digitValue, sameBytes};
 
 // The class of each of the 256 bytes, by number: space 0, digit 1, capital 2, small letter 3, joiner 4, quote 5, tick 6, mark 7,
 // slash 8, plus 9, other 10. Letters, digits and joiners, the bytes of a word, are 1 to 4.
@@ -292,4 +292,21 @@ pub fn digit_value(b: u8) -> u8
         return b - 97 + 10;
     }
     16
+}
+
+// Whether two slices hold the same bytes. They are compared from their ends, as names in one place often begin alike.
+pub fn same_bytes(a: &[u8], b: &[u8]) -> bool
+    ensures { λ r. ⌜ r ≡ sameBytes (now (a .entry)) (now (b .entry)) ⌝ }
+{
+    if a.len() != b.len() {
+        return false;
+    }
+    let mut i = a.len();
+    while 0 < i {
+        i -= 1;
+        if a[i] != b[i] {
+            return false;
+        }
+    }
+    true
 }

@@ -1,66 +1,47 @@
 use native.Mathlib.Omega.{arith}
-use mathlib.Core.Path.{_∙_}
+use mathlib.Core.Path.{sym, _∙_}
 use Rattle.literals.specs.Content.{sameContent}
-use Rattle.lexer.proofs.PartLaws.{part-content}
 use borrow.Author.Needs.{needs}
 use Rattle.lexer.proofs.token.same_keys.Statement.{statement}
 use Rattle.lexer.proofs.token.same_keys.Tie as tie
 use Rattle.lexer.proofs.token.same_keys.Reads as reads
 use Rattle.lexer.proofs.token.same_keys.Lts as lts
-use Rattle.lexer.proofs.token.part_of.Reads as part-of-reads
-use Rattle.literals.proofs.compare.same_content.Reads as same-content-reads
+use Rattle.lexer.proofs.token.is_word.Reads as is-word-reads
+use Rattle.lexer.proofs.token.same_parts.Reads as same-parts-reads
+use Rattle.text.proofs.bytes.same_bytes.Reads as same-bytes-reads
 
--- src/token.rt:178:9
-part-of-requires : tie.Need-part-of-requires
-part-of-requires c κs = c .before .before .pre .0
+-- src/token.rt:223:8
+is-word-requires : tie.Need-is-word-requires
+is-word-requires c κs = c .before .before .pre .0
 
--- src/token.rt:179:9
-part-of-requires-2 : tie.Need-part-of-requires-2
-part-of-requires-2 c κs = c .before .before .before .pre .1
+-- src/token.rt:224:12
+is-word-requires-2 : tie.Need-is-word-requires-2
+is-word-requires-2 c κs = c .before .before .before .before .pre .1
 
--- src/token.rt:186:29
-sub-same-content : tie.Need-sub-same-content
-sub-same-content c = omega arith
+-- src/token.rt:225:13
+same-bytes-requires : tie.Need-same-bytes-requires
+same-bytes-requires c κs = search needs
 
--- src/token.rt:186:29
-part-same-content-start : tie.Need-part-same-content-start
-part-same-content-start c = omega arith
-
--- src/token.rt:186:29
-part-same-content-end : tie.Need-part-same-content-end
-part-same-content-end c = omega arith
-
--- src/token.rt:186:52
-sub-same-content-2 : tie.Need-sub-same-content-2
-sub-same-content-2 c = omega arith
-
--- src/token.rt:186:52
-part-same-content-start-2 : tie.Need-part-same-content-start-2
-part-same-content-start-2 c = omega arith
-
--- src/token.rt:186:52
-part-same-content-end-2 : tie.Need-part-same-content-end-2
-part-same-content-end-2 c = omega arith
-
--- src/token.rt:186:5
-same-content-requires : tie.Need-same-content-requires
-same-content-requires c κs = search needs
-
--- src/token.rt:173:1
+-- src/token.rt:225:13
 returns : tie.Need-returns
-returns c = c .same-content .ensures ∙ (λ i. sameContent (part-content (c .before .before .before .before .before .before .before .args .sw) (c .before .before .before .before .before .before .before .args .a .now) _ _ _ (c .before .before .before .before .before .before .before .pre .0) (c .before .before .before .before .part-of .ensures .holds) i) (part-content (c .before .before .before .before .before .before .before .args .sw) (c .before .before .before .before .before .before .before .args .b .now) _ _ _ (c .before .before .before .before .before .before .before .pre .1) (c .before .before .before .part-of2 .ensures .holds) i))
+unfolding sameContent
+returns c = c .same-bytes .ensures ∙ sym (λ i. sameContent (c .before .before .before .before .is-word .ensures .own (c .before .before .before .if1 .taken) i) (c .before .before .is-word2 .ensures .own (c .before .if2 .taken) i))
+
+-- src/token.rt:228:5
+same-parts-requires : tie.Need-same-parts-requires
+same-parts-requires c κs = (c .before .before .before .before .pre .0, c .before .before .before .before .pre .1)
+
+-- src/token.rt:218:1
+returns-2 : tie.Need-returns-2
+returns-2 c = c .same-parts .ensures
 
 pub same-keys-spec : {M : Type 1} → statement M
 same-keys-spec =
     tie.close
     (tie.spec
-    part-of-requires
-    part-of-requires-2
-    sub-same-content
-    part-same-content-start
-    part-same-content-end
-    sub-same-content-2
-    part-same-content-start-2
-    part-same-content-end-2
-    same-content-requires
-    returns)
+    is-word-requires
+    is-word-requires-2
+    same-bytes-requires
+    returns
+    same-parts-requires
+    returns-2)
