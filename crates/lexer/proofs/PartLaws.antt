@@ -14,7 +14,7 @@ use borrow.Author.Tests.{eq-eqb, ne-eqb, lt-ltb}
 use Rattle.text.specs.declared.switches.Switches.{Switches}
 use Rattle.text.specs.Bytes.{front, begins, is, Class, classOf, classNumber, isWordByte, isNumberByte}
 use Rattle.text.specs.Utf8.{isUtf8, listed}
-use Rattle.text.proofs.ClassLaws.{classAt, class-by}
+use Rattle.text.proofs.ClassLaws.{classAt, class-by, quote-number}
 use Rattle.literals.specs.declared.decoder.Body.{Body}
 use Rattle.literals.specs.declared.decoder.Body.the-variants as Y
 use Rattle.literals.specs.declared.decoder.Decoder.the-variants as D
@@ -275,6 +275,23 @@ module _ (sw : Switches) (s : List ℕ) (y : KeyedAs sw s (smallItem sw (getD s 
 
   pub small-word : (getD s 0 0 ≡ 98 → ⊥) → (getD s 0 0 ≡ 114 → ⊥) → tokenContent sw s ≡ some s
   small-word m n = word-is sw s (subst (KeyedAs sw s) (small-other sw s 0 m n) y)
+
+-- a string or key that begins with none of the bytes that open strings is a word
+pub keyed-own : (sw : Switches) (s : List ℕ) → Keyed sw s → getD s 0 0 < 256 → (getD s 0 0 ≡ 34 → ⊥) → (getD s 0 0 ≡ 98 → ⊥) → (getD s 0 0 ≡ 114 → ⊥)
+    → tokenContent sw s ≡ some s
+unfolding itemOf classAt
+keyed-own sw s y h k m n = by-class (eqb c 3) (eqb c 5) refl refl
+  where
+    c : ℕ
+    c = classNumber (classOf (getD s 0 0))
+
+    no : (x z : ℕ) → eqb x z ≡ false → x ≡ z → ⊥
+    no x z e f = false≢true (sym e ∙ eq-eqb x z f)
+
+    by-class : (t u : Bool) → eqb c 3 ≡ t → eqb c 5 ≡ u → tokenContent sw s ≡ some s
+    by-class true u e f = small-word sw s (keyed-class sw c s 3 y refl (same-by c 3 e)) m n
+    by-class false true e f = absurd (k (quote-number (getD s 0 0) h (same-by c 5 f)))
+    by-class false false e f = keyed-word sw c s y refl (no c 3 e) (no c 5 f)
 
 -- ---- what an answer of `item_at` says
 

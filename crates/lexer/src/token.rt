@@ -174,24 +174,21 @@ pub fn put_token(sw: Switches, token: &[u8], out: &mut [u8]) -> Written
     Written::Refused
 }
 
-// Whether a string or key is a word, by its first byte. False says nothing: words begin with `b` or `r` as strings do.
+// Whether a string or key is a word, by its first byte. False says nothing: words begin with `b` or `r` as strings do. Asked for
+// every key of an object at each new one, so the byte is compared: looking it up in the table of classes costs much more.
 fn is_word(sw: Switches, token: &[u8]) -> bool
     requires { ⌜ Keyed sw (now token) ⌝ }
     ensures { λ r. ⌜ WordIf sw (now (token .entry)) r ⌝ }
 {
     let b = byte_at(token, 0);
-    let class = text::bytes::class_of(b);
-    if class == 5 {
+    if b == b'"' {
         return false;
     }
-    if class == 3 {
-        if b == b'b' {
-            return false;
-        }
-        if b == b'r' {
-            return false;
-        }
-        return true;
+    if b == b'b' {
+        return false;
+    }
+    if b == b'r' {
+        return false;
     }
     true
 }

@@ -1,10 +1,10 @@
 -- A class by its number, and the bytes of a word by their classes' numbers.
 -- Assumes nothing.
-use mathlib.Core.Path.{_≡_, refl, sym, ap, _∙_}
+use mathlib.Core.Path.{_≡_, refl, sym, ap, _∙_, subst}
 use Prim.Native.Nat.{ℕ, zero, suc, _<_}
 use mathlib.Core.Bool.{Bool, true, false, not, cond, _&&_}
 use mathlib.Core.List.{List, [], _∷_}
-use lib.Dec.{T, leb, ltb, eqb}
+use lib.Dec.{T, leb, ltb, eqb, eqb→eq}
 use lib.ListN.{length, getD, replicate, length-replicate}
 use native.Mathlib.Omega.{arith}
 use Rattle.text.specs.Bytes.{Class, space, digit, capital, small, joiner, quote, tick, mark, slash, plus, other, classOf, classNumber, oneOf, isWordByte, isLetterOrDigit}
@@ -65,3 +65,17 @@ unfolding agrees isWordNumber
 word-number b n h e =
     let l = length-replicate {A = ℕ} 256 0 in
     agreed (isWordByte b) (isWordNumber (classNumber (classOf b))) (at agrees (replicate 256 0) all-agree b (omega arith)) ∙ ap isWordNumber (sym e)
+
+-- the class 5 has one byte
+oneQuote : ℕ → ℕ → Bool
+oneQuote b x = cond (eqb (classNumber (classOf b)) 5) (eqb b 34) true
+
+all-quotes : T (every oneQuote 0 (replicate 256 0))
+unfolding oneQuote classOf classNumber oneOf
+all-quotes = tt
+
+pub quote-number : (b : ℕ) → b < 256 → classNumber (classOf b) ≡ 5 → b ≡ 34
+unfolding oneQuote
+quote-number b h e =
+    let l = length-replicate {A = ℕ} 256 0 in
+    eqb→eq b 34 (subst (λ (n : ℕ). T (cond (eqb n 5) (eqb b 34) true)) e (at oneQuote (replicate 256 0) all-quotes b (omega arith)))
