@@ -6,6 +6,7 @@ use native.Mathlib.Omega.{arith}
 use mathlib.Core.Bool.{Bool, true, false, cond, _&&_}
 use mathlib.Core.Option.{Option, none, some}
 use mathlib.Core.List.{List, [], _∷_}
+use lib.Dec.{T}
 use lib.ListN.{length, drop, getD}
 use borrow.Author.Tests.{eq-eqb, ne-eqb}
 use Rattle.text.specs.declared.switches.Switches.{Switches}
@@ -20,7 +21,7 @@ use Rattle.literals.specs.declared.compare.Cursor.{Cursor}
 use Rattle.literals.specs.declared.compare.Piece.{Piece}
 use Rattle.literals.specs.declared.compare.Piece.the-variants as P
 use Rattle.literals.specs.Content.{decodeStep, mayEnd, prepend, decoded, startOf, content, sameContent}
-use Rattle.literals.specs.InternalContent.{Sound, cursorAt, rest, weight, Step, PieceIs, Pieced}
+use Rattle.literals.specs.InternalContent.{Sound, FirstWritten, Apart, cursorAt, rest, weight, Step, PieceIs, Pieced}
 use Rattle.literals.proofs.FewLaws.{few-short}
 use Rattle.literals.proofs.StepLaws.{good-next, decoded-turn, decoded-end}
 use Rattle.literals.proofs.TallyLaws.{start-sound}
@@ -127,6 +128,23 @@ unfolding sameContent sameBytes prepend
 byte-same p q none y e = refl
 byte-same p q (some a) none e = refl
 byte-same p q (some a) (some b) e = ap (λ (t : Bool). t && sameBytes a b) (eq-eqb p q e)
+
+-- ---- first bytes that stand for themselves
+
+pub apart-unknown : (abody : Body) (a : List ℕ) (bbody : Body) (b : List ℕ) → Apart abody a bbody b false
+apart-unknown abody a bbody b = record { is = λ e sw. absurd (subst T (sym e) tt) }
+
+pub apart-first : {abody bbody : Body} {a b : List ℕ} {p q : ℕ} → FirstWritten abody a p → FirstWritten bbody b q → (p ≡ 0 → ⊥) → (q ≡ 0 → ⊥) → (p ≡ q → ⊥)
+    → Apart abody a bbody b true
+apart-first {abody} {bbody} {a} {b} {p} {q} P Q m n d =
+    record {
+      is = λ e sw. (λ z. sameContent (P .is m sw z) (Q .is n sw z))
+          ∙ byte-differ p q (decoded sw (startOf abody) (drop 1 a)) (decoded sw (startOf bbody) (drop 1 b)) d;
+    }
+
+pub apart-not : {abody bbody : Body} {a b : List ℕ} {r : Bool} → Apart abody a bbody b r → r ≡ true → (sw : Switches)
+    → false ≡ sameContent (content sw abody a) (content sw bbody b)
+apart-not A e sw = sym (A .is e sw)
 
 -- from the cursors m, n at the starts to x, y
 pub record Both (sw : Switches) (a b : List ℕ) (m n x y : Cursor) : Type 0 where

@@ -4,6 +4,7 @@ pub mod Signed
 pub mod DecoderLaws
 pub mod FewLaws
 pub mod StepLaws
+pub mod PlainLaws
 pub mod TallyLaws
 pub mod FillLaws
 pub mod CursorLaws

@@ -1,17 +1,19 @@
 -- A content measured from the front: what the loop of `measure` knows.
 -- Assumes nothing.
-use mathlib.Core.Path.{_≡_, refl, sym, ap, _∙_}
-use Prim.Native.Nat.{ℕ, _+_, _<_, _≤_}
+use mathlib.Core.Path.{_≡_, refl, sym, ap, _∙_, subst}
+use Prim.Native.Nat.{ℕ, zero, suc, _+_, _<_, _≤_}
 use native.Mathlib.Omega.{arith}
 use mathlib.Core.Bool.{Bool, true, false, not, cond, _||_}
 use mathlib.Core.Option.{Option, none, some}
-use mathlib.Core.List.{List, [], _++_}
+use mathlib.Core.List.{List, [], _∷_, _++_}
 use lib.ListN.{length, drop, getD, length-append}
+use borrow.Author.Tests.{le-leb}
 use Rattle.text.specs.declared.switches.Switches.{Switches}
 use Rattle.text.specs.declared.utf8.Utf8.{Utf8}
 use Rattle.text.specs.declared.utf8.Utf8.the-variants.{Whole}
+use Rattle.text.specs.declared.utf8.Few.the-variants.{One}
 use Rattle.text.specs.Bytes.{feed}
-use Rattle.text.specs.Utf8.{utf8Step, utf8, isUtf8, isWhole, listed, bytesRead}
+use Rattle.text.specs.Utf8.{lead, utf8Step, utf8, isUtf8, isWhole, listed, bytesRead}
 use Rattle.text.proofs.FeedLaws.{feed-append}
 use Rattle.literals.specs.declared.decoder.Body.{Body}
 use Rattle.literals.specs.declared.decoder.Body.the-variants.{Quoted, Raw, Base64, Word}
@@ -19,8 +21,8 @@ use Rattle.literals.specs.declared.decoder.Decoder.{Decoder}
 use Rattle.literals.specs.declared.decoder.Decoded.{Decoded}
 use Rattle.literals.specs.declared.content.Measure.{Measure}
 use Rattle.literals.specs.declared.content.Measure.the-variants.{Length, Refused}
-use Rattle.literals.specs.Content.{decodeStep, mayEnd, prepend, decoded, startOf, content, onlyUtf8, contentOf, measured}
-use Rattle.literals.specs.InternalContent.{bitRoom, Sound}
+use Rattle.literals.specs.Content.{gives, decodeStep, mayEnd, prepend, decoded, startOf, content, onlyUtf8, contentOf, measured}
+use Rattle.literals.specs.InternalContent.{bitRoom, Sound, AsWritten}
 use Rattle.literals.proofs.FewLaws.{read-feed}
 use Rattle.literals.proofs.StepLaws.{spent, good-next, decoded-turn, decoded-end}
 
@@ -90,6 +92,44 @@ tally-start sw text body s st e =
       read = omega arith;
       same = refl;
     }
+
+-- an ASCII byte between characters
+feed-ascii : (n b : ℕ) → b ≤ 0x7F → feed utf8Step (Whole n) (b ∷ []) ≡ Whole (n + 1)
+unfolding feed utf8Step lead
+feed-ascii n b h = rw (le-leb b 0x7F h)
+
+-- the loop may start after the bytes at the front that stand for themselves
+module _ (sw : Switches) (text : Bool) (body : Body) (s : List ℕ) (st : Decoder) (e : st ≡ startOf body) (f : ℕ) (W : AsWritten body s f) where
+  skip-step : (n : ℕ) → n < f → gives st (One (getD s n 0)) ≡ decodeStep sw st (getD s n 0)
+  skip-step n h = rw e (sym (W .same sw n h))
+
+  skip-same : (n : ℕ) → n < f → tally text (Whole n) n (decoded sw st (drop n s)) ≡ tally text (Whole (n + 1)) (n + 1) (decoded sw st (drop (n + 1) s))
+  unfolding listed
+  skip-same n h =
+      let w = W .inside in
+      ap (tally text (Whole n) n) (decoded-turn sw st (gives st (One (getD s n 0))) s n (omega arith) (skip-step n h))
+      ∙ tally-prepend text (Whole n) n (getD s n 0 ∷ []) (decoded sw st (drop (n + 1) s))
+      ∙ ap (λ (u : Utf8). tally text u (n + 1) (decoded sw st (drop (n + 1) s))) (feed-ascii n (getD s n 0) (W .low n h))
+
+  skip-to : (n : ℕ) → n ≤ f → Tallied sw text st s st (Whole n) n n
+  unfolding bytesRead
+  skip-to zero h = tally-start sw text body s st e
+  skip-to (suc n) h =
+      let A = skip-to n (omega arith) in
+      let a = A .spends in
+      let w = W .inside in
+      let p : n + 1 ≡ suc n = omega arith in
+      subst (λ (m : ℕ). Tallied sw text st s st (Whole m) m m) p
+      (record {
+        within = omega arith;
+        sound = A .sound;
+        spends = omega arith;
+        read = omega arith;
+        same = A .same ∙ skip-same n (omega arith);
+      })
+
+  pub tally-skip : Tallied sw text st s st (Whole f) f f
+  tally-skip = skip-to f (omega arith)
 
 module _ {sw : Switches} {text : Bool} {first : Decoder} {s : List ℕ} {st : Decoder} {u : Utf8} {n i : ℕ} (A : Tallied sw text first s st u n i) where
   -- the count after a step still counts bytes of the slice

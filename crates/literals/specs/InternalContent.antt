@@ -2,19 +2,21 @@
 -- Assumes nothing.
 use Prim.Native.Nat.{ℕ, zero, suc, _+_, _-_, _*_, _/_, _<_, _≤_}
 use mathlib.Core.Path.{_≡_}
-use mathlib.Core.Bool.{Bool, cond}
+use mathlib.Core.Bool.{Bool, true, false, cond}
 use mathlib.Core.Option.{Option, none, some}
 use mathlib.Core.List.{List, [], _∷_}
-use lib.ListN.{length, drop}
+use lib.ListN.{length, drop, getD}
 use Rattle.text.specs.declared.switches.Switches.{Switches}
 use Rattle.text.specs.declared.utf8.Few.{Few}
+use Rattle.text.specs.declared.utf8.Few.the-variants.{One}
 use Rattle.text.specs.Utf8.{listed}
+use Rattle.literals.specs.declared.decoder.Body.{Body}
 use Rattle.literals.specs.declared.decoder.Decoder.{Decoder}
 use Rattle.literals.specs.declared.decoder.Decoder.the-variants.{Plain, Escape, Hex, Verbatim, Letters, Digits, Pads, Bad}
 use Rattle.literals.specs.declared.compare.Cursor.{Cursor}
 use Rattle.literals.specs.declared.compare.Piece.{Piece}
 use Rattle.literals.specs.declared.compare.Piece.the-variants as P
-use Rattle.literals.specs.Content.{prepend, decoded}
+use Rattle.literals.specs.Content.{gives, decodeStep, startOf, prepend, decoded, content, sameContent}
 
 -- an escape's value so far is below this, where `left` digits are due after the next one: then a byte, or 32 bits, hold it at the end
 unfoldable pub hexRoom : (byte : Bool) (left : ℕ) → ℕ
@@ -44,6 +46,33 @@ Sound Bad = Unit {0}
 unfoldable pub HasRoom : Option (List ℕ) → (room : ℕ) → Type 0
 HasRoom none room = ⊥
 HasRoom (some bytes) room = length bytes ≤ room
+
+-- ---- bytes that stand for themselves
+
+-- printable ASCII other than the backslash
+pub record PlainByte (b : ℕ) : Type 0 where
+  pub low : 0x20 ≤ b
+  pub high : b ≤ 0x7E
+  pub apart : b ≡ 0x5C → ⊥
+
+-- the first n bytes are such
+pub record PlainFront (s : List ℕ) (n : ℕ) : Type 0 where
+  pub inside : n ≤ length s
+  pub plain : (k : ℕ) → k < n → PlainByte (getD s k 0)
+
+-- the first n bytes of a body are ASCII and stand for themselves, and the decoder is then where it was at the start
+pub record AsWritten (body : Body) (s : List ℕ) (n : ℕ) : Type 0 where
+  pub inside : n ≤ length s
+  pub low : (k : ℕ) → k < n → getD s k 0 ≤ 0x7F
+  pub same : (sw : Switches) (k : ℕ) → k < n → decodeStep sw (startOf body) (getD s k 0) ≡ gives (startOf body) (One (getD s k 0))
+
+-- the content of a body begins with this byte, if it has one; 0 says nothing
+pub record FirstWritten (body : Body) (s : List ℕ) (b : ℕ) : Type 0 where
+  pub is : (b ≡ 0 → ⊥) → (sw : Switches) → content sw body s ≡ prepend (b ∷ []) (decoded sw (startOf body) (drop 1 s))
+
+-- two bodies have not the same content, if the answer is true
+pub record Apart (abody : Body) (a : List ℕ) (bbody : Body) (b : List ℕ) (r : Bool) : Type 0 where
+  pub is : r ≡ true → (sw : Switches) → sameContent (content sw abody a) (content sw bbody b) ≡ false
 
 -- ---- cursors
 

@@ -3,7 +3,7 @@
 ghost use mathlib.Core.Path.{_≡_};
 ghost use lib.ListN.{length};
 ghost use Rattle.literals.specs.Content.{content, contentOf, measured, fitted, placed};
-ghost use Rattle.literals.specs.InternalContent.{HasRoom};
+ghost use Rattle.literals.specs.InternalContent.{HasRoom, PlainFront, AsWritten};
 use crate::decoder::Body;
 use crate::decoder::Decoded;
 use crate::decoder::Decoder;
@@ -31,14 +31,49 @@ pub enum Written {
     NoRoom,
 }
 
-// The length of a body's content. A text's must be UTF-8: the machine that judges it is fed along.
+// How many bytes at the front are printable ASCII other than the backslash.
+fn plain_front(s: &[u8]) -> usize
+    ensures { λ r. ⌜ PlainFront (now (s .entry)) r ⌝ }
+{
+    let mut i = 0;
+    while i < s.len() {
+        let b = s[i];
+        if b < 0x20 {
+            return i;
+        }
+        if 0x7e < b {
+            return i;
+        }
+        if b == 0x5c {
+            return i;
+        }
+        i += 1;
+    }
+    i
+}
+
+// How many bytes at the front of a body stand for themselves, so far as they are looked for: in base64 they are not.
+fn written_front(body: Body, s: &[u8]) -> usize
+    ensures { λ r. ⌜ AsWritten body (now (s .entry)) r ⌝ }
+{
+    match body {
+        Body::Quoted => plain_front(s),
+        Body::Raw => plain_front(s),
+        Body::Base64 => 0,
+        Body::Word => plain_front(s),
+    }
+}
+
+// The length of a body's content. A text's must be UTF-8: the machine that judges it is fed along. Both start after the bytes that
+// stand for themselves.
 pub fn measure_content(sw: Switches, text: bool, body: Body, s: &[u8]) -> Measure
     ensures { λ r. ⌜ r ≡ measured (contentOf sw text body (now (s .entry))) ⌝ }
 {
+    let from = written_front(body, s);
     let mut st = start_of(body);
-    let mut u = Utf8::Whole(0);
-    let mut n = 0;
-    let mut i = 0;
+    let mut u = Utf8::Whole(from);
+    let mut n = from;
+    let mut i = from;
     while i < s.len() {
         let d = decode_step(sw, st, s[i]);
         let out = d.out;
