@@ -1,13 +1,14 @@
 -- The machines that find the end of a string and of a comment: what they count, and that they stay where they have ended.
 -- Assumes nothing.
 use mathlib.Core.Path.{_≡_, refl, sym, ap, _∙_, subst}
-use Prim.Native.Nat.{ℕ, zero, suc, _+_, _*_, _≤_, _<_}
+use Prim.Native.Nat.{ℕ, zero, suc, _+_, _-_, _*_, _≤_, _<_}
 use native.Mathlib.Omega.{arith}
-use mathlib.Core.Bool.{Bool, true, false, cond, _&&_, false≢true}
+use mathlib.Core.Bool.{Bool, true, false, not, cond, _&&_, _||_, false≢true}
 use mathlib.Core.List.{List, [], _∷_}
-use lib.Dec.{eqb, eqb→eq}
-use lib.ListN.{length}
-use Rattle.text.specs.Bytes.{feed, is}
+use lib.Dec.{eqb, eqb→eq, T}
+use lib.ListN.{length, drop}
+use lib.Seq.{drop-drop}
+use Rattle.text.specs.Bytes.{feed, front, is}
 use Rattle.text.proofs.Choice.{cond-both}
 use Rattle.text.proofs.FeedLaws.{feed-stays, feed-le}
 use Rattle.lexer.specs.declared.closing.Closing.{Closing}
@@ -122,6 +123,72 @@ module _ (escapes : Bool) (k : ℕ) where
 
   pub closed-stays : (c : Closing) → isClosed c ≡ true → (l : List ℕ) → feed (closingStep escapes k) c l ≡ c
   closed-stays c e l = feed-stays (closingStep escapes k) c (closed-step c e) l
+
+-- ---- bytes that are neither a quote nor a backslash
+
+-- the same test as in the contract of `plain_end`
+abbrev pub plain : ℕ → Bool
+plain b = not (eqb b 0x22 || eqb b 0x5C)
+
+-- a choice whose first two tests fail
+third : {A : Type 0} (q s e : Bool) (x y z : A) → T (not (q || s)) → cond q x (cond (s && e) y z) ≡ z
+third true s e x y z h = absurd h
+third false true e x y z h = absurd h
+third false false e x y z h = refl
+
+module _ (escapes : Bool) (k : ℕ) where
+  -- such a byte only counts
+  plain-step : (n b : ℕ) → T (plain b) → closingStep escapes k (C.Inside n) b ≡ C.Inside (suc n)
+  unfolding closingStep afterOther
+  plain-step n b h = third (eqb b 0x22) (eqb b 0x5C) escapes (afterQuote escapes k 0 (suc n)) (C.Escaped (suc n)) (C.Inside (suc n)) h
+
+  -- so do all of them at the front
+  plain-front : (s : List ℕ) (n : ℕ)
+      → feed (closingStep escapes k) (C.Inside n) s ≡ feed (closingStep escapes k) (C.Inside (n + front plain s)) (drop (front plain s) s)
+  unfolding feed front
+  plain-front [] n = ap C.Inside (omega arith)
+  plain-front (b ∷ s) n =
+      cond-both
+      (λ (m : ℕ). feed (closingStep escapes k) (C.Inside n) (b ∷ s) ≡ feed (closingStep escapes k) (C.Inside (n + m)) (drop m (b ∷ s)))
+      (plain b)
+      (λ t.
+      let e : suc n + front plain s ≡ n + suc (front plain s) = omega arith in
+      ap (λ (c : Closing). feed (closingStep escapes k) c s) (plain-step n b t) ∙ plain-front s (suc n)
+      ∙ ap (λ (m : ℕ). feed (closingStep escapes k) (C.Inside m) (drop (front plain s) s)) e)
+      (λ _. let e : n ≡ n + 0 = omega arith in ap (λ (m : ℕ). feed (closingStep escapes k) (C.Inside m) (b ∷ s)) e)
+
+  -- a loop that goes from i to r, the end of such bytes, counts them and goes on from there
+  pub plain-skip : (text : List ℕ) (n i r : ℕ) → r ≡ i + front plain (drop i text)
+      → feed (closingStep escapes k) (C.Inside n) (drop i text) ≡ feed (closingStep escapes k) (C.Inside (n + (r - i))) (drop r text)
+  plain-skip text n i r e =
+      let m : front plain (drop i text) ≡ r - i = omega arith in
+      let w : i + (r - i) ≡ r = omega arith in
+      plain-front (drop i text) n
+      ∙ ap (λ (d : ℕ). feed (closingStep escapes k) (C.Inside (n + d)) (drop d (drop i text))) m
+      ∙ ap (λ (l : List ℕ). feed (closingStep escapes k) (C.Inside (n + (r - i))) l)
+      (drop-drop (r - i) i text ∙ ap (λ (d : ℕ). drop d text) w)
+
+  -- the same at the string's first byte: a loop may begin at r
+  pub plain-start : (text : List ℕ) (from r : ℕ) → r ≡ from + front plain (drop from text)
+      → closing escapes k (drop from text) ≡ feed (closingStep escapes k) (C.Inside (r - from)) (drop r text)
+  unfolding closing
+  plain-start text from r e =
+      let z : 0 + (r - from) ≡ r - from = omega arith in
+      plain-skip text 0 from r e ∙ ap (λ (m : ℕ). feed (closingStep escapes k) (C.Inside m) (drop r text)) z
+
+  -- the same from a state that is told by an equation
+  pub plain-turn : (text : List ℕ) (c : Closing) (n i r : ℕ) → c ≡ C.Inside n → r ≡ i + front plain (drop i text)
+      → feed (closingStep escapes k) c (drop i text) ≡ feed (closingStep escapes k) (C.Inside (n + (r - i))) (drop r text)
+  plain-turn text c n i r e h = ap (λ (x : Closing). feed (closingStep escapes k) x (drop i text)) e ∙ plain-skip text n i r h
+
+  -- what such a state has counted after a turn of the loop
+  pub plain-counts : (c next : Closing) (b n from i : ℕ) → next ≡ closingStep escapes k c b → closingRead c + 2 * from ≤ 2 * i
+      → next ≡ C.Inside n → n + 2 * from ≤ 2 * (i + 1)
+  unfolding closingRead
+  plain-counts c next b n from i e h f =
+      let r = closing-turn escapes k c next b from i e h in
+      let g : closingRead next ≡ n = ap closingRead f in
+      omega arith
 
 -- ---- the end of a block comment
 

@@ -1,7 +1,10 @@
 // Where a string token and a block comment end.
 ghost use mathlib.Core.Path.{_≡_};
-ghost use Prim.Native.Nat.{_≤_, _<_, _+_};
+ghost use Prim.Native.Nat.{ℕ, _≤_, _<_, _+_};
+ghost use mathlib.Core.Bool.{not, _||_};
+ghost use lib.Dec.{eqb};
 ghost use lib.ListN.{length, drop};
+ghost use Rattle.text.specs.Bytes.{front};
 ghost use Rattle.lexer.specs.Closing.{afterQuote, afterOther, closingStep, closing, blockStep, block};
 ghost use Rattle.lexer.specs.Internal.{closingRead, isClosed, blockRead, isShut};
 
@@ -76,18 +79,45 @@ fn is_closed(c: Closing) -> bool
     }
 }
 
-// Where the string ends whose opening quote stands before `from`.
+// The first place at or after `from` whose byte is a quote or a backslash, or the text's end. What stands before it only counts.
+fn plain_end(text: &[u8], from: usize) -> usize
+    ensures { λ r. ⌜ r ≡ from + front (λ (b : ℕ). not (eqb b 0x22 || eqb b 0x5C)) (drop from (now (text .entry))) ⌝ }
+{
+    let mut i = from;
+    while i < text.len() {
+        if text[i] == b'"' {
+            return i;
+        }
+        if text[i] == b'\\' {
+            return i;
+        }
+        i += 1;
+    }
+    i
+}
+
+// Where the string ends whose opening quote stands before `from`. The machine is fed the bytes that may change its state; the others
+// are passed over by `plain_end`.
 pub fn find_closing(text: &[u8], from: usize, escapes: bool, k: usize) -> Closing
     ensures { λ r. ⌜ r ≡ closing escapes k (drop from (now (text .entry))) ⌝ }
 {
-    let mut c = Closing::Inside(0);
-    let mut i = from;
+    let start = plain_end(text, from);
+    let mut c = Closing::Inside(start - from);
+    let mut i = start;
     while i < text.len() {
         c = closing_step(escapes, k, c, text[i]);
         if is_closed(c) {
             return c;
         }
         i += 1;
+        match c {
+            Closing::Inside(n) => {
+                let next = plain_end(text, i);
+                c = Closing::Inside(n + (next - i));
+                i = next;
+            }
+            _ => {}
+        }
     }
     c
 }
