@@ -13,14 +13,26 @@ pub enum Run {
     Hash,
 }
 
+// A letter, a digit or a joiner. It is asked of every byte of a word, so the byte is compared: a lookup copies the table of classes.
 fn is_word_byte(b: u8) -> bool
     ensures { λ r. ⌜ r ≡ isWordByte b ⌝ }
 {
-    let k = text::bytes::class_of(b);
-    if k < 1 {
+    if b < b'0' {
+        return b == b'-';
+    }
+    if b <= b'9' {
+        return true;
+    }
+    if b < b'A' {
         return false;
     }
-    k <= 4
+    if b <= b'Z' {
+        return true;
+    }
+    if b < b'a' {
+        return b == b'_';
+    }
+    b <= b'z'
 }
 
 fn in_run(run: Run, b: u8) -> bool

@@ -1,25 +1,42 @@
+use borrow.Author.Needs.{needs}
 use native.Mathlib.Omega.{arith}
 use mathlib.Core.Path.{sym, _∙_}
-use borrow.Author.Tests.{lt-ltb, le-ltb}
-use Rattle.text.proofs.ClassLaws.{word-number}
-use borrow.Author.Needs.{needs}
+use borrow.Author.Tests.{lt-ltb, le-ltb, le-leb, lt-leb}
+use Rattle.lexer.proofs.RunLaws.{wordRanges, word-ranges}
 use Rattle.lexer.proofs.runs.is_word_byte.Statement.{statement}
 use Rattle.lexer.proofs.runs.is_word_byte.Tie as tie
 use Rattle.lexer.proofs.runs.is_word_byte.Reads as reads
 use Rattle.lexer.proofs.runs.is_word_byte.Lts as lts
-use Rattle.text.proofs.bytes.class_of.Reads as class-of-reads
-
--- src/runs.rt:19:9
-class-of-requires : tie.Need-class-of-requires
-class-of-requires c κs = search needs
 
 -- src/runs.rt:21:9
 returns : tie.Need-returns
-returns c = sym (word-number (c .before .before .args .b) (c .before .class-of .result) (omega arith) (c .before .class-of .ensures) ∙ rw (lt-ltb _ _ (c .if1 .taken)))
+unfolding wordRanges
+returns c = rw (← word-ranges (c .before .args .b) (omega arith), lt-ltb (c .before .args .b) 48 (omega arith))
 
--- src/runs.rt:16:1
+-- src/runs.rt:24:9
 returns-2 : tie.Need-returns-2
-returns-2 c = sym (word-number (c .before .before .args .b) (c .before .class-of .result) (omega arith) (c .before .class-of .ensures) ∙ rw (le-ltb _ _ (c .if1 .left)))
+unfolding wordRanges
+returns-2 c = rw (← word-ranges (c .before .before .args .b) (omega arith), le-ltb (c .before .before .args .b) 48 (omega arith), le-leb (c .before .before .args .b) 57 (omega arith))
+
+-- src/runs.rt:27:9
+returns-3 : tie.Need-returns-3
+unfolding wordRanges
+returns-3 c = rw (← word-ranges (c .before .before .before .args .b) (omega arith), le-ltb (c .before .before .before .args .b) 48 (omega arith), lt-leb (c .before .before .before .args .b) 57 (omega arith), lt-ltb (c .before .before .before .args .b) 65 (omega arith))
+
+-- src/runs.rt:30:9
+returns-4 : tie.Need-returns-4
+unfolding wordRanges
+returns-4 c = rw (← word-ranges (c .before .before .before .before .args .b) (omega arith), le-ltb (c .before .before .before .before .args .b) 48 (omega arith), lt-leb (c .before .before .before .before .args .b) 57 (omega arith), le-ltb (c .before .before .before .before .args .b) 65 (omega arith), le-leb (c .before .before .before .before .args .b) 90 (omega arith))
+
+-- src/runs.rt:33:9
+returns-5 : tie.Need-returns-5
+unfolding wordRanges
+returns-5 c = rw (← word-ranges (c .before .before .before .before .before .args .b) (omega arith), le-ltb (c .before .before .before .before .before .args .b) 48 (omega arith), lt-leb (c .before .before .before .before .before .args .b) 57 (omega arith), le-ltb (c .before .before .before .before .before .args .b) 65 (omega arith), lt-leb (c .before .before .before .before .before .args .b) 90 (omega arith), lt-ltb (c .before .before .before .before .before .args .b) 97 (omega arith))
+
+-- src/runs.rt:17:1
+returns-6 : tie.Need-returns-6
+unfolding wordRanges
+returns-6 c = rw (← word-ranges (c .before .before .before .before .before .args .b) (omega arith), le-ltb (c .before .before .before .before .before .args .b) 48 (omega arith), lt-leb (c .before .before .before .before .before .args .b) 57 (omega arith), le-ltb (c .before .before .before .before .before .args .b) 65 (omega arith), lt-leb (c .before .before .before .before .before .args .b) 90 (omega arith), le-ltb (c .before .before .before .before .before .args .b) 97 (omega arith))
 
 pub is-word-byte-spec : {M : Type 1} → statement M
-is-word-byte-spec = tie.close (tie.spec class-of-requires returns returns-2)
+is-word-byte-spec = tie.close (tie.spec returns returns-2 returns-3 returns-4 returns-5 returns-6)
