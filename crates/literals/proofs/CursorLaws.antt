@@ -21,9 +21,10 @@ use Rattle.literals.specs.declared.compare.Cursor.{Cursor}
 use Rattle.literals.specs.declared.compare.Piece.{Piece}
 use Rattle.literals.specs.declared.compare.Piece.the-variants as P
 use Rattle.literals.specs.Content.{decodeStep, mayEnd, prepend, decoded, startOf, content, sameContent}
-use Rattle.literals.specs.InternalContent.{Sound, FirstWritten, Apart, cursorAt, rest, weight, Step, PieceIs, Pieced}
+use Rattle.literals.specs.InternalContent.{Sound, cursorAt, rest, weight, Step, PieceIs, Pieced}
 use Rattle.literals.proofs.FewLaws.{few-short}
 use Rattle.literals.proofs.StepLaws.{good-next, decoded-turn, decoded-end}
+use Rattle.literals.proofs.PairLaws.{same-none, end-byte, byte-end, byte-differ, byte-same}
 use Rattle.literals.proofs.TallyLaws.{start-sound}
 use Rattle.literals.proofs.FillLaws.{prepend-both, prepend-none}
 
@@ -101,50 +102,6 @@ module _ {sw : Switches} {s : List ℕ} {c : Cursor} {r : Piece} where
   byte-is e h = subst (λ (x : Piece). PieceIs sw s c x) e (h .is)
 
 -- ---- both sides
-
-same-none : (x : Option (List ℕ)) → sameContent x none ≡ false
-unfolding sameContent
-same-none none = refl
-same-none (some a) = refl
-
-end-byte : (q : ℕ) (y : Option (List ℕ)) → sameContent (some []) (prepend (q ∷ []) y) ≡ false
-unfolding sameContent sameBytes prepend
-end-byte q none = refl
-end-byte q (some b) = refl
-
-byte-end : (p : ℕ) (x : Option (List ℕ)) → sameContent (prepend (p ∷ []) x) (some []) ≡ false
-unfolding sameContent sameBytes prepend
-byte-end p none = refl
-byte-end p (some a) = refl
-
-byte-differ : (p q : ℕ) (x y : Option (List ℕ)) → (p ≡ q → ⊥) → sameContent (prepend (p ∷ []) x) (prepend (q ∷ []) y) ≡ false
-unfolding sameContent sameBytes prepend
-byte-differ p q none y n = refl
-byte-differ p q (some a) none n = refl
-byte-differ p q (some a) (some b) n = ap (λ (t : Bool). t && sameBytes a b) (ne-eqb p q n)
-
-byte-same : (p q : ℕ) (x y : Option (List ℕ)) → p ≡ q → sameContent (prepend (p ∷ []) x) (prepend (q ∷ []) y) ≡ sameContent x y
-unfolding sameContent sameBytes prepend
-byte-same p q none y e = refl
-byte-same p q (some a) none e = refl
-byte-same p q (some a) (some b) e = ap (λ (t : Bool). t && sameBytes a b) (eq-eqb p q e)
-
--- ---- first bytes that stand for themselves
-
-pub apart-unknown : (abody : Body) (a : List ℕ) (bbody : Body) (b : List ℕ) → Apart abody a bbody b false
-apart-unknown abody a bbody b = record { is = λ e sw. absurd (subst T (sym e) tt) }
-
-pub apart-first : {abody bbody : Body} {a b : List ℕ} {p q : ℕ} → FirstWritten abody a p → FirstWritten bbody b q → (p ≡ 0 → ⊥) → (q ≡ 0 → ⊥) → (p ≡ q → ⊥)
-    → Apart abody a bbody b true
-apart-first {abody} {bbody} {a} {b} {p} {q} P Q m n d =
-    record {
-      is = λ e sw. (λ z. sameContent (P .is m sw z) (Q .is n sw z))
-          ∙ byte-differ p q (decoded sw (startOf abody) (drop 1 a)) (decoded sw (startOf bbody) (drop 1 b)) d;
-    }
-
-pub apart-not : {abody bbody : Body} {a b : List ℕ} {r : Bool} → Apart abody a bbody b r → r ≡ true → (sw : Switches)
-    → false ≡ sameContent (content sw abody a) (content sw bbody b)
-apart-not A e sw = sym (A .is e sw)
 
 -- from the cursors m, n at the starts to x, y
 pub record Both (sw : Switches) (a b : List ℕ) (m n x y : Cursor) : Type 0 where

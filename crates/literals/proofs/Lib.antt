@@ -7,4 +7,5 @@ pub mod StepLaws
 pub mod PlainLaws
 pub mod TallyLaws
 pub mod FillLaws
+pub mod PairLaws
 pub mod CursorLaws

@@ -1,6 +1,6 @@
 -- Laws of bytes that stand for themselves: printable ASCII other than the backslash, in every body but base64.
 -- Assumes nothing.
-use mathlib.Core.Path.{_≡_, refl, sym}
+use mathlib.Core.Path.{_≡_, refl}
 use Prim.Native.Nat.{ℕ, _+_, _<_, _≤_}
 use native.Mathlib.Omega.{arith}
 use mathlib.Core.Bool.{Bool, true, false}
@@ -10,14 +10,12 @@ use lib.ListN.{length, getD}
 use borrow.Author.Tests.{ne-eqb, ltb-true, ltb-false}
 use Rattle.text.specs.declared.switches.Switches.{Switches}
 use Rattle.text.specs.declared.utf8.Few.the-variants.{One}
-use Rattle.text.specs.Utf8.{listed}
 use Rattle.literals.specs.declared.decoder.Body.{Body}
 use Rattle.literals.specs.declared.decoder.Body.the-variants.{Quoted, Raw, Word}
 use Rattle.literals.specs.declared.decoder.Decoder.the-variants.{Plain, Verbatim, Letters}
-use Rattle.literals.specs.Content.{gives, plainStep, rawStep, decodeStep, startOf, content}
-use Rattle.literals.specs.InternalContent.{PlainByte, PlainFront, AsWritten, FirstWritten}
+use Rattle.literals.specs.Content.{gives, plainStep, rawStep, decodeStep, startOf}
+use Rattle.literals.specs.InternalContent.{PlainByte, PlainFront, AsWritten}
 use Rattle.literals.proofs.DecoderLaws.{quoted-high, raw-high}
-use Rattle.literals.proofs.StepLaws.{decoded-turn}
 
 -- ---- the run of them at the front
 
@@ -81,19 +79,3 @@ module _ {body : Body} {s : List ℕ} {n : ℕ} where
 
 pub written-none : (body : Body) (s : List ℕ) → AsWritten body s 0
 written-none body s = record { inside = omega arith; low = λ k h. absurd (omega arith); same = λ sw k h. absurd (omega arith) }
-
--- ---- the first byte
-
-pub first-none : (body : Body) (s : List ℕ) → FirstWritten body s 0
-first-none body s = record { is = λ n sw. absurd (n refl) }
-
-pub first-plain : (s : List ℕ) → 0 < length s → 0x20 ≤ getD s 0 0 → getD s 0 0 ≤ 0x7E → (getD s 0 0 ≡ 0x5C → ⊥) → PlainFront s 1
-first-plain s h l m n = plain-more s 0 (plain-none s) h l m n
-
-pub first-is : {body : Body} {s : List ℕ} → AsWritten body s 1 → FirstWritten body s (getD s 0 0)
-unfolding content listed
-first-is {body} {s} W =
-    let w = W .inside in
-    record {
-      is = λ n sw. decoded-turn sw (startOf body) (gives (startOf body) (One (getD s 0 0))) s 0 (omega arith) (sym (W .same sw 0 (omega arith)));
-    }

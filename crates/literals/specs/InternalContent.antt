@@ -2,13 +2,14 @@
 -- Assumes nothing.
 use Prim.Native.Nat.{ℕ, zero, suc, _+_, _-_, _*_, _/_, _<_, _≤_}
 use mathlib.Core.Path.{_≡_}
+use mathlib.Core.Logic.{_⊎_}
 use mathlib.Core.Bool.{Bool, true, false, cond}
 use mathlib.Core.Option.{Option, none, some}
 use mathlib.Core.List.{List, [], _∷_}
 use lib.ListN.{length, drop, getD}
 use Rattle.text.specs.declared.switches.Switches.{Switches}
 use Rattle.text.specs.declared.utf8.Few.{Few}
-use Rattle.text.specs.declared.utf8.Few.the-variants.{One}
+use Rattle.text.specs.declared.utf8.Few.the-variants.{Zero, One}
 use Rattle.text.specs.Utf8.{listed}
 use Rattle.literals.specs.declared.decoder.Body.{Body}
 use Rattle.literals.specs.declared.decoder.Decoder.{Decoder}
@@ -66,9 +67,17 @@ pub record AsWritten (body : Body) (s : List ℕ) (n : ℕ) : Type 0 where
   pub low : (k : ℕ) → k < n → getD s k 0 ≤ 0x7F
   pub same : (sw : Switches) (k : ℕ) → k < n → decodeStep sw (startOf body) (getD s k 0) ≡ gives (startOf body) (One (getD s k 0))
 
--- the content of a body begins with this byte, if it has one; 0 says nothing
-pub record FirstWritten (body : Body) (s : List ℕ) (b : ℕ) : Type 0 where
-  pub is : (b ≡ 0 → ⊥) → (sw : Switches) → content sw body s ≡ prepend (b ∷ []) (decoded sw (startOf body) (drop 1 s))
+-- the decoder refuses a byte, or takes it for itself and stays, unless it is a backslash
+pub record Steady (st : Decoder) : Type 0 where
+  pub step : (sw : Switches) (b : ℕ) → (b ≡ 0x5C → ⊥) → (decodeStep sw st b ≡ gives Bad Zero) ⊎ (decodeStep sw st b ≡ gives st (One b))
+
+-- so it is all through a body, if the answer is true
+pub record SteadyIf (body : Body) (r : Bool) : Type 0 where
+  pub is : r ≡ true → Steady (startOf body)
+
+-- what such decoders make of two runs of bytes is not the same, if the answer is true
+pub record FrontApart (a b : List ℕ) (r : Bool) : Type 0 where
+  pub is : r ≡ true → (sw : Switches) (st su : Decoder) → Steady st → Steady su → sameContent (decoded sw st a) (decoded sw su b) ≡ false
 
 -- two bodies have not the same content, if the answer is true
 pub record Apart (abody : Body) (a : List ℕ) (bbody : Body) (b : List ℕ) (r : Bool) : Type 0 where

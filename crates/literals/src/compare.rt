@@ -1,7 +1,7 @@
 // Two contents against each other, with no buffer: each side is decoded by a cursor, and the first difference ends it.
 ghost use mathlib.Core.Path.{_≡_};
 ghost use Rattle.literals.specs.Content.{content, sameContent};
-ghost use Rattle.literals.specs.InternalContent.{Sound, FirstWritten, Apart, Pieced, cursorAt};
+ghost use Rattle.literals.specs.InternalContent.{Sound, SteadyIf, FrontApart, Apart, Pieced, cursorAt};
 use crate::decoder::Body;
 use crate::decoder::Decoded;
 use crate::decoder::Decoder;
@@ -69,54 +69,61 @@ fn next_byte(sw: Switches, s: &[u8], from: Cursor) -> Piece
     }
 }
 
-// The first byte of a body if it is printable ASCII other than the backslash, so that it stands for itself; else 0. Of base64 always 0.
-fn first_written(body: Body, s: &[u8]) -> u8
-    ensures { λ r. ⌜ FirstWritten body (now (s .entry)) r ⌝ }
+// Whether bytes of a body that are no backslash stand for themselves: so in all but base64.
+fn is_steady(body: Body) -> bool
+    ensures { λ r. ⌜ SteadyIf body r ⌝ }
 {
-    if s.len() == 0 {
-        return 0;
-    }
-    let b = s[0];
-    if b < 0x20 {
-        return 0;
-    }
-    if 0x7e < b {
-        return 0;
-    }
-    if b == 0x5c {
-        return 0;
-    }
     match body {
-        Body::Quoted => b,
-        Body::Raw => b,
-        Body::Base64 => 0,
-        Body::Word => b,
+        Body::Quoted => true,
+        Body::Raw => true,
+        Body::Base64 => false,
+        Body::Word => true,
     }
 }
 
-// Whether two bodies begin with different bytes that stand for themselves: then their contents differ.
-fn starts_apart(abody: Body, a: &[u8], bbody: Body, b: &[u8]) -> bool
+// Whether two runs of bytes are alike up to a place where both go on with different bytes, and hold no backslash up to there.
+fn front_apart(a: &[u8], b: &[u8]) -> bool
+    ensures { λ r. ⌜ FrontApart (now (a .entry)) (now (b .entry)) r ⌝ }
+{
+    let mut i = 0;
+    while i < a.len() {
+        if b.len() <= i {
+            return false;
+        }
+        let x = a[i];
+        let y = b[i];
+        if x == 0x5c {
+            return false;
+        }
+        if y == 0x5c {
+            return false;
+        }
+        if x != y {
+            return true;
+        }
+        i += 1;
+    }
+    false
+}
+
+// Whether two bodies are seen to have different contents by their bytes as written. Asked for every key of an object at each new
+// one: decoding both sides costs much more, and is left for those that go on alike.
+fn written_apart(abody: Body, a: &[u8], bbody: Body, b: &[u8]) -> bool
     ensures { λ r. ⌜ Apart abody (now (a .entry)) bbody (now (b .entry)) r ⌝ }
 {
-    let p = first_written(abody, a);
-    if p == 0 {
-        return false;
+    if is_steady(abody) {
+        if is_steady(bbody) {
+            return front_apart(a, b);
+        }
     }
-    let q = first_written(bbody, b);
-    if q == 0 {
-        return false;
-    }
-    if p == q {
-        return false;
-    }
-    true
+    false
 }
 
 // Whether two bodies have the same content.
 pub fn same_content(sw: Switches, abody: Body, a: &[u8], bbody: Body, b: &[u8]) -> bool
     ensures { λ r. ⌜ r ≡ sameContent (content sw abody (now (a .entry))) (content sw bbody (now (b .entry))) ⌝ }
 {
-    if starts_apart(abody, a, bbody, b) {
+    if written_apart(abody, a, bbody, b) {
         return false;
     }
     let mut x = cursor_at(0, start_of(abody), Few::Zero);
