@@ -276,6 +276,23 @@ module _ (sw : Switches) (s : List ℕ) (y : KeyedAs sw s (smallItem sw (getD s 
   pub small-word : (getD s 0 0 ≡ 98 → ⊥) → (getD s 0 0 ≡ 114 → ⊥) → tokenContent sw s ≡ some s
   small-word m n = word-is sw s (subst (KeyedAs sw s) (small-other sw s 0 m n) y)
 
+-- the same by the first byte itself
+module _ (sw : Switches) (s : List ℕ) (y : Keyed sw s) where
+  keyed-at : (b m : ℕ) → getD s 0 0 ≡ b → m ≡ classNumber (classOf b) → KeyedAs sw s (itemOf sw (classAt m) (getD s 0 0) (drop 1 s))
+  keyed-at b m e f = keyed-class sw m s m y (f ∙ ap (λ (x : ℕ). classNumber (classOf x)) (sym e)) refl
+
+  pub keyed-quote : getD s 0 0 ≡ 34 → KeyedAs sw s (stringItem sw true Y.Quoted 0 0 (drop 1 s))
+  unfolding itemOf classAt classOf classNumber
+  keyed-quote e = keyed-at 34 5 e refl
+
+  pub keyed-b : getD s 0 0 ≡ 98 → KeyedAs sw s (smallItem sw (getD s 0 0) (drop 1 s))
+  unfolding itemOf classAt classOf classNumber
+  keyed-b e = keyed-at 98 3 e refl
+
+  pub keyed-r : getD s 0 0 ≡ 114 → KeyedAs sw s (smallItem sw (getD s 0 0) (drop 1 s))
+  unfolding itemOf classAt classOf classNumber
+  keyed-r e = keyed-at 114 3 e refl
+
 -- a string or key that begins with none of the bytes that open strings is a word
 pub keyed-own : (sw : Switches) (s : List ℕ) → Keyed sw s → getD s 0 0 < 256 → (getD s 0 0 ≡ 34 → ⊥) → (getD s 0 0 ≡ 98 → ⊥) → (getD s 0 0 ≡ 114 → ⊥)
     → tokenContent sw s ≡ some s

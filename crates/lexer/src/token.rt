@@ -91,35 +91,34 @@ fn b_part(sw: Switches, token: &[u8]) -> Part
     word_part(sw, token)
 }
 
-// The part of what begins with a small letter.
-fn small_part(sw: Switches, token: &[u8]) -> Part
+// The part of what begins with an `r`.
+fn r_part(sw: Switches, token: &[u8]) -> Part
+    requires { ⌜ getD (now token) 0 0 ≡ 114 ⌝ }
     requires { ⌜ KeyedAs sw (now token) (smallItem sw (getD (now token) 0 0) (drop 1 (now token))) ⌝ }
     ensures { λ r. ⌜ PartIs sw (now (token .entry)) r ⌝ }
 {
-    let b = byte_at(token, 0);
-    if b == b'b' {
-        return b_part(sw, token);
-    }
-    if b == b'r' {
-        if opens_raw(byte_at(token, 1)) {
-            return raw_part(sw, token, true, 0);
-        }
-        return word_part(sw, token);
+    if opens_raw(byte_at(token, 1)) {
+        return raw_part(sw, token, true, 0);
     }
     word_part(sw, token)
 }
 
-// Where a string or key holds its content. Public for the crates above only, which show that it is one.
+// Where a string or key holds its content, by its first byte: what begins with no quote, `b` or `r` is a word. Asked for every key
+// of an object at each new one, so the byte is compared: looking it up in the table of classes costs much more. Public for the
+// crates above only, which show that it is one.
 pub fn part_of(sw: Switches, token: &[u8]) -> Part
     requires { ⌜ Keyed sw (now token) ⌝ }
     ensures { λ r. ⌜ PartIs sw (now (token .entry)) r ⌝ }
 {
-    let class = text::bytes::class_of(byte_at(token, 0));
-    if class == 3 {
-        return small_part(sw, token);
-    }
-    if class == 5 {
+    let b = byte_at(token, 0);
+    if b == b'"' {
         return string_part(sw, token, true, Body::Quoted, 0, 0);
+    }
+    if b == b'b' {
+        return b_part(sw, token);
+    }
+    if b == b'r' {
+        return r_part(sw, token);
     }
     word_part(sw, token)
 }
@@ -174,8 +173,7 @@ pub fn put_token(sw: Switches, token: &[u8], out: &mut [u8]) -> Written
     Written::Refused
 }
 
-// Whether a string or key is a word, by its first byte. False says nothing: words begin with `b` or `r` as strings do. Asked for
-// every key of an object at each new one, so the byte is compared: looking it up in the table of classes costs much more.
+// Whether a string or key is a word, by its first byte. False says nothing: words begin with `b` or `r` as strings do.
 fn is_word(sw: Switches, token: &[u8]) -> bool
     requires { ⌜ Keyed sw (now token) ⌝ }
     ensures { λ r. ⌜ WordIf sw (now (token .entry)) r ⌝ }
