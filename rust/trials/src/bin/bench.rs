@@ -72,6 +72,12 @@ fn json() -> Vec<u8> {
     text.into_bytes()
 }
 
+/// One object of 4,000 keys, each between two of these quotes, or none.
+fn keys(quote: &str) -> Vec<u8> {
+    let pairs: Vec<_> = (0..4000).map(|n| format!("{quote}key{n:04}{quote}:{}", n % 10)).collect();
+    format!("{{{}}}", pairs.join(",")).into_bytes()
+}
+
 fn benches() -> Vec<Bench> {
     let mut benches = vec![
         Bench { name: "season file".into(), text: season(65_536), words: FULL },
@@ -81,14 +87,8 @@ fn benches() -> Vec<Bench> {
             text: format!("[\"{}\"]", "x".repeat(65_532)).into_bytes(),
             words: FULL,
         },
-        Bench {
-            name: "4,000 keys, one object".into(),
-            text: {
-                let keys: Vec<_> = (0..4000).map(|n| format!("key{n:04}:{}", n % 10)).collect();
-                format!("{{{}}}", keys.join(",")).into_bytes()
-            },
-            words: FULL,
-        },
+        Bench { name: "4,000 keys, one object".into(), text: keys(""), words: FULL },
+        Bench { name: "4,000 keys in quotes".into(), text: keys("\""), words: FULL },
         Bench {
             // With the array itself that makes 4,096 nodes.
             name: "4,095 nulls, one array".into(),
