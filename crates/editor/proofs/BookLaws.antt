@@ -1,0 +1,212 @@
+-- What the book and the lent buffers share at every point of a list of calls, and that a correction keeps it.
+-- Assumes nothing.
+use mathlib.Core.Path.{_≡_, refl, sym, ap, ap₂, _∙_, subst}
+use Prim.Native.Nat.{ℕ, _+_, _≤_, _<_, min}
+use native.Mathlib.Omega.{arith}
+use mathlib.Core.Bool.{Bool, true, false, not, cond, _||_, false≢true, true≢false}
+use mathlib.Core.List.{List, [], _∷_, _++_}
+use lib.Dec.{T, leb, ltb, eqb, ltb→lt}
+use lib.ListN.{length, length-append}
+use borrow.Author.Tests.{ltb-false, leb-false, eqb-true, le-ltb}
+use Rattle.text.specs.declared.switches.Switches.{Switches}
+use Rattle.reader.specs.Syntax.{Outcome, taken, refused}
+use Rattle.reader.specs.Reading.{reading, reads, isTaken, nodeCount, tableOf, oneValue, maxText}
+use Rattle.editor.specs.Edit.{Lent, Result, textOf, journalOf, answered, badLength, lengthRefused, corrected, entryOf, withText, overwritten, noRoom, correctionRefusal, withCorrection, decided, onceRead, correct}
+use Rattle.editor.specs.Book.{Correction, Room, Seen, bookText, bookJournal, bookRefusal, told, handedOn, seenOf}
+use Rattle.editor.proofs.SpliceLaws.{length-withText, take-withText, length-overwritten, take-overwritten}
+
+not-of-false : (b : Bool) → not b ≡ false → b ≡ true
+not-of-false true e = refl
+not-of-false false e = absurd (true≢false e)
+
+-- a chain of refusals that comes to 0: the first test failed, and so did the rest
+zero-cond : (b : Bool) (n x : ℕ) → T (ltb 0 n) → cond b n x ≡ 0 → (b ≡ false) × (x ≡ 0)
+zero-cond true n x t e = let h = ltb→lt 0 n t in absurd (omega arith)
+zero-cond false n x t e = (refl, e)
+
+module _ (sw : Switches) where
+  -- the answer and the buffers of a call, by text, journal and lengths
+  shown : (words number : ℕ) (t j : List ℕ) (u k : ℕ) → Seen
+  shown words number t j u k =
+      record {
+        answer = record { number = number; place = 0; nodes = nodeCount (reading sw words t); used = u; kept = k };
+        text = t;
+        journal = j;
+        table = tableOf words (reading sw words t);
+      }
+
+  -- 12 to 16, by text, room and the journal's length with the new entry
+  chain : (words : ℕ) → Correction → (t : List ℕ) (room total journal : ℕ) → ℕ
+  chain words c t room total journal =
+      cond (leb (nodeCount (reading sw words t)) (c .node)) 12
+      (cond (not (oneValue sw (ltb 0 (c .node)) (c .replacement))) 13
+      (cond (noRoom (corrected sw words (c .node) (c .replacement) t) room) 14
+      (cond (ltb journal total) 15
+      (cond (not (reads sw words (corrected sw words (c .node) (c .replacement) t))) 16
+      0))))
+
+  record Accepted (words : ℕ) (c : Correction) (t : List ℕ) (room total journal : ℕ) : Type 0 where
+    isNode : c .node < nodeCount (reading sw words t)
+    fits : length (corrected sw words (c .node) (c .replacement) t) ≤ min room maxText
+    enters : total ≤ journal
+    reads′ : reads sw words (corrected sw words (c .node) (c .replacement) t) ≡ true
+
+  accepted : (words : ℕ) (c : Correction) (t : List ℕ) (room total journal : ℕ) → chain words c t room total journal ≡ 0
+      → Accepted words c t room total journal
+  unfolding chain noRoom
+  accepted words c t room total journal e =
+      let new : List ℕ = corrected sw words (c .node) (c .replacement) t in
+      let x₅ : ℕ = cond (not (reads sw words new)) 16 0 in
+      let x₄ : ℕ = cond (ltb journal total) 15 x₅ in
+      let x₃ : ℕ = cond (noRoom new room) 14 x₄ in
+      let x₂ : ℕ = cond (not (oneValue sw (ltb 0 (c .node)) (c .replacement))) 13 x₃ in
+      let e₁ = zero-cond (leb (nodeCount (reading sw words t)) (c .node)) 12 x₂ tt e in
+      let e₂ = zero-cond (not (oneValue sw (ltb 0 (c .node)) (c .replacement))) 13 x₃ tt (e₁ .1) in
+      let e₃ = zero-cond (noRoom new room) 14 x₄ tt (e₂ .1) in
+      let e₄ = zero-cond (ltb journal total) 15 x₅ tt (e₃ .1) in
+      let e₅ = zero-cond (not (reads sw words new)) 16 0 tt (e₄ .1) in
+      record {
+        isNode = leb-false _ _ (e₁ .0);
+        fits = ltb-false _ _ (e₃ .0);
+        enters = ltb-false _ _ (e₄ .0);
+        reads′ = not-of-false _ (e₅ .0);
+      }
+
+  -- what a call comes to, once the text reads
+  pub once-read : (words : ℕ) (b : Lent) (o : Outcome) (n : ℕ) (new : Lent) → isTaken o ≡ true → onceRead sw words b o n new ≡ decided sw words b n new
+  unfolding onceRead isTaken
+  once-read words b (taken t) n new e = refl
+  once-read words b (refused k p) n new e = absurd (false≢true e)
+
+  module _ (room : Room) (first : List ℕ) where
+    abbrev pub W : ℕ
+    W = room .words
+
+    abbrev pub text-of : List Correction → List ℕ
+    text-of cs = bookText sw room first cs
+
+    abbrev pub journal-of : List Correction → List ℕ
+    journal-of cs = bookJournal sw room first cs
+
+    -- each text on the way reads and has room; each correction's node was there
+    unfoldable pub AllAccepted : List Correction → Type 0
+    AllAccepted [] = (length first ≤ min (room .text) maxText) × (reads sw W first ≡ true)
+    AllAccepted (c ∷ cs) =
+        AllAccepted cs × (c .node < nodeCount (reading sw W (text-of cs))) × (length (text-of (c ∷ cs)) ≤ min (room .text) maxText) × (reads sw W (text-of (c ∷ cs)) ≡ true)
+
+    pub in-room : (cs : List Correction) → AllAccepted cs → length (text-of cs) ≤ min (room .text) maxText
+    unfolding AllAccepted bookText
+    in-room [] f = f .0
+    in-room (c ∷ cs) f = f .2
+
+    pub in-reads : (cs : List Correction) → AllAccepted cs → reads sw W (text-of cs) ≡ true
+    unfolding AllAccepted bookText
+    in-reads [] f = f .1
+    in-reads (c ∷ cs) f = f .3
+
+    pub record Shared (cs : List Correction) (b : Lent) : Type 0 where
+      pub textRoom : length (b .text) ≡ room .text
+      pub journalRoom : length (b .journal) ≡ room .journal
+      pub usedFits : b .used ≤ length (b .text)
+      pub keptFits : b .kept ≤ length (b .journal)
+      pub used : b .used ≡ length (text-of cs)
+      pub kept : b .kept ≡ length (journal-of cs)
+      pub texts : textOf b ≡ text-of cs
+      pub journals : journalOf b ≡ journal-of cs
+      pub force : AllAccepted cs
+
+    pub seen-told : (cs : List Correction) (b : Lent) (n : ℕ) → Shared cs b → seenOf (answered sw W n 0 b) ≡ told sw room first n cs
+    unfolding seenOf handedOn answered told shown
+    seen-told cs b n sh = λ i. shown W n (sh .texts i) (sh .journals i) (sh .used i) (sh .kept i)
+
+    pub not-bad : (cs : List Correction) (b : Lent) → Shared cs b → badLength b ≡ false
+    unfolding badLength
+    not-bad cs b sh = ap₂ _||_ (le-ltb _ _ (sh .usedFits)) (le-ltb _ _ (sh .keptFits))
+
+    pub outcome-taken : (cs : List Correction) (b : Lent) → Shared cs b → isTaken (reading sw W (textOf b)) ≡ true
+    unfolding reads
+    outcome-taken cs b sh = ap (reads sw W) (sh .texts) ∙ in-reads cs (sh .force)
+
+    -- ---- corrections
+
+    correct-decided : (cs : List Correction) (b : Lent) (c : Correction) → Shared cs b
+        → correct sw W b (c .node) (c .replacement)
+        ≡ decided sw W b (correctionRefusal sw W b (c .node) (c .replacement)) (withCorrection sw W b (c .node) (c .replacement))
+    unfolding correct
+    correct-decided cs b c sh =
+        ap (λ (x : Bool). cond x (lengthRefused W b) (onceRead sw W b (reading sw W (textOf b)) (correctionRefusal sw W b (c .node) (c .replacement)) (withCorrection sw W b (c .node) (c .replacement)))) (not-bad cs b sh)
+        ∙ once-read W b (reading sw W (textOf b)) _ _ (outcome-taken cs b sh)
+
+    chain-book : (cs : List Correction) (c : Correction)
+        → bookRefusal sw room first cs c ≡ chain W c (text-of cs) (room .text) (length (journal-of cs) + length (entryOf sw W (c .node) (c .replacement) (text-of cs))) (room .journal)
+    unfolding bookRefusal chain bookText bookJournal
+    chain-book cs c =
+        ap (λ (n : ℕ). chain W c (text-of cs) (room .text) n (room .journal)) (length-append (journal-of cs) (entryOf sw W (c .node) (c .replacement) (text-of cs)))
+
+    chain-lent : (cs : List Correction) (b : Lent) (c : Correction) → Shared cs b
+        → correctionRefusal sw W b (c .node) (c .replacement)
+        ≡ chain W c (text-of cs) (room .text) (length (journal-of cs) + length (entryOf sw W (c .node) (c .replacement) (text-of cs))) (room .journal)
+    unfolding correctionRefusal chain
+    chain-lent cs b c sh =
+        λ i. chain W c (sh .texts i) (sh .textRoom i) (sh .kept i + length (entryOf sw W (c .node) (c .replacement) (sh .texts i))) (sh .journalRoom i)
+
+    withCorrection-shared : (cs : List Correction) (b : Lent) (c : Correction) → Shared cs b
+        → Accepted W c (text-of cs) (room .text) (length (journal-of cs) + length (entryOf sw W (c .node) (c .replacement) (text-of cs))) (room .journal)
+        → Shared (c ∷ cs) (withCorrection sw W b (c .node) (c .replacement))
+    unfolding withCorrection textOf journalOf bookText bookJournal AllAccepted
+    withCorrection-shared cs b c sh ac =
+        let new : List ℕ = corrected sw W (c .node) (c .replacement) (textOf b) in
+        let more : List ℕ = entryOf sw W (c .node) (c .replacement) (textOf b) in
+        let e : new ≡ text-of (c ∷ cs) = ap (corrected sw W (c .node) (c .replacement)) (sh .texts) in
+        let f : more ≡ entryOf sw W (c .node) (c .replacement) (text-of cs) = ap (entryOf sw W (c .node) (c .replacement)) (sh .texts) in
+        let le : length new ≡ length (text-of (c ∷ cs)) = ap length e in
+        let lf : length more ≡ length (entryOf sw W (c .node) (c .replacement) (text-of cs)) = ap length f in
+        let g₁ = ac .fits in
+        let g₂ = ac .enters in
+        let g₃ = sh .textRoom in
+        let g₄ = sh .journalRoom in
+        let g₅ = sh .kept in
+        let g₆ = sh .usedFits in
+        let n : length new ≤ length (b .text) = omega arith in
+        let m : b .kept + length more ≤ length (b .journal) = omega arith in
+        let lt : length (withText (b .used) new (b .text)) ≡ length (b .text) = length-withText (b .used) new (b .text) g₆ n in
+        let lj : length (overwritten (b .kept) more (b .journal)) ≡ length (b .journal) = length-overwritten (b .kept) more (b .journal) m in
+        record {
+          textRoom = lt ∙ g₃;
+          journalRoom = lj ∙ g₄;
+          usedFits = omega arith;
+          keptFits = omega arith;
+          used = le;
+          kept = ap₂ _+_ g₅ lf ∙ sym (length-append (journal-of cs) (entryOf sw W (c .node) (c .replacement) (text-of cs)));
+          texts = take-withText (b .used) new (b .text) ∙ e;
+          journals = take-overwritten (b .kept) more (b .journal) m ∙ ap₂ _++_ (sh .journals) f;
+          force = (sh .force, ac .isNode, g₁, ac .reads′);
+        }
+
+    abbrev pub Same : List Correction → Lent → (number : ℕ) → List Correction → Result → Type 0
+    Same cs b number after r = (seenOf r ≡ told sw room first number after) × Shared after (handedOn r)
+
+    -- the two branches of a decision
+    decided-same : (cs after : List Correction) (b new : Lent) (n : ℕ) (z : Bool) → eqb n 0 ≡ z → Shared cs b
+        → (n ≡ 0 → Shared after new) → Same cs b n (cond z after cs) (decided sw W b n new)
+    unfolding decided answered handedOn
+    decided-same cs after b new n true e sh k =
+        let n0 : n ≡ 0 = eqb-true n 0 e in
+        let r : decided sw W b n new ≡ answered sw W 0 0 new = ap (λ (x : Bool). cond x (answered sw W 0 0 new) (answered sw W n 0 b)) e in
+        subst (λ (res : Result). Same cs b n after res) (sym r)
+        (subst (λ (m : ℕ). seenOf (answered sw W 0 0 new) ≡ told sw room first m after) (sym n0) (seen-told after new 0 (k n0)), k n0)
+    decided-same cs after b new n false e sh k =
+        let r : decided sw W b n new ≡ answered sw W n 0 b = ap (λ (x : Bool). cond x (answered sw W 0 0 new) (answered sw W n 0 b)) e in
+        subst (λ (res : Result). Same cs b n cs res) (sym r) (seen-told cs b n sh, sh)
+
+    pub correct-same : (cs : List Correction) (b : Lent) (c : Correction) → Shared cs b
+        → Same cs b (bookRefusal sw room first cs c) (cond (eqb (bookRefusal sw room first cs c) 0) (c ∷ cs) cs) (correct sw W b (c .node) (c .replacement))
+    correct-same cs b c sh =
+        let total : ℕ = length (journal-of cs) + length (entryOf sw W (c .node) (c .replacement) (text-of cs)) in
+        let ch : ℕ = chain W c (text-of cs) (room .text) total (room .journal) in
+        let p : correct sw W b (c .node) (c .replacement) ≡ decided sw W b (bookRefusal sw room first cs c) (withCorrection sw W b (c .node) (c .replacement)) =
+        correct-decided cs b c sh
+        ∙ ap (λ (n : ℕ). decided sw W b n (withCorrection sw W b (c .node) (c .replacement))) (chain-lent cs b c sh ∙ sym (chain-book cs c)) in
+        subst (λ (res : Result). Same cs b (bookRefusal sw room first cs c) (cond (eqb (bookRefusal sw room first cs c) 0) (c ∷ cs) cs) res) (sym p)
+        (decided-same cs (c ∷ cs) b (withCorrection sw W b (c .node) (c .replacement)) (bookRefusal sw room first cs c) (eqb (bookRefusal sw room first cs c) 0) refl sh
+        (λ e. withCorrection-shared cs b c sh (accepted W c (text-of cs) (room .text) total (room .journal) (sym (chain-book cs c) ∙ e))))

@@ -1,0 +1,196 @@
+-- Demand 3, proved of the definitions: by induction on the list of calls, with what the book and the buffers share (BookLaws).
+-- Assumes nothing.
+use mathlib.Core.Path.{_≡_, refl, sym, ap, ap₂, _∙_, subst}
+use Prim.Native.Nat.{ℕ, _≤_}
+use native.Mathlib.Omega.{arith}
+use mathlib.Core.Bool.{Bool, true, false, cond, false≢true}
+use mathlib.Core.List.{List, [], _∷_, _++_}
+use lib.Dec.{T, leb}
+use lib.ListN.{length, take, replicate}
+use lib.Seq.{length-take-le}
+use borrow.Author.Tests.{leb-true}
+use Rattle.text.specs.declared.switches.Switches.{Switches}
+use Rattle.text.specs.Utf8.{utf8, isWhole, wholeFront}
+use Rattle.lexer.specs.Token.{tokens}
+use Rattle.reader.specs.Syntax.{refused, run, before}
+use Rattle.reader.specs.Reading.{reading, reads, isTaken, outcome, limitsOf, tableOf, maxText}
+use Rattle.editor.specs.Edit.{Lent, Result, textOf, journalOf, answered, decided, withUndo, undo}
+use Rattle.editor.specs.Book.{Correction, Call, correction, undoing, Room, Seen, bookText, bookJournal, told, bookAfter, bookNumber, inForce, book, handedOn, seenOf, called, calls, after, roomOf, Fresh, Demand3}
+use Rattle.editor.proofs.BookLaws.{AllAccepted, Shared, Same, seen-told, correct-same}
+use Rattle.editor.proofs.UndoLaws.{undo-decided, undo-none, undo-some, withUndo-shared}
+
+-- ---- every call, and every list of calls
+
+module _ (sw : Switches) (room : Room) (first : List ℕ) where
+  abbrev W : ℕ
+  W = room .words
+
+  call-same : (cs : List Correction) (b : Lent) (k : Call) → Shared sw room first cs b
+      → Same sw room first cs b (bookNumber sw room first cs k) (bookAfter sw room first cs k) (called sw W b k)
+  unfolding bookNumber bookAfter called decided answered handedOn
+  call-same cs b (correction c) sh = correct-same sw room first cs b c sh
+  call-same [] b undoing sh =
+      let p : undo sw W b ≡ answered sw W 17 0 b =
+      undo-decided sw room first [] b sh ∙ ap (λ (n : ℕ). decided sw W b n (withUndo b)) (undo-none sw room first b sh) in
+      subst (λ (res : Result). Same sw room first [] b 17 [] res) (sym p) (seen-told sw room first [] b 17 sh, sh)
+  call-same (c ∷ cs) b undoing sh =
+      let p : undo sw W b ≡ answered sw W 0 0 (withUndo b) =
+      undo-decided sw room first (c ∷ cs) b sh ∙ ap (λ (n : ℕ). decided sw W b n (withUndo b)) (undo-some sw room first c cs (sh .force) b sh) in
+      let new : Shared sw room first cs (withUndo b) = withUndo-shared sw room first c cs (sh .force) b sh in
+      subst (λ (res : Result). Same sw room first (c ∷ cs) b 0 cs res) (sym p) (seen-told sw room first cs (withUndo b) 0 new, new)
+
+  all-same : (cs : List Correction) (b : Lent) (ks : List Call) → Shared sw room first cs b → calls sw W b ks ≡ book sw room first cs ks
+  unfolding calls book
+  all-same cs b [] sh = refl
+  all-same cs b (k ∷ ks) sh =
+      let one = call-same cs b k sh in
+      ap₂ _∷_ (one .0) (all-same (bookAfter sw room first cs k) (handedOn (called sw W b k)) ks (one .1))
+
+  all-shared : (cs : List Correction) (b : Lent) (ks : List Call) → Shared sw room first cs b
+      → Shared sw room first (inForce sw room first cs ks) (after sw W b ks)
+  unfolding inForce after
+  all-shared cs b [] sh = sh
+  all-shared cs b (k ∷ ks) sh = all-shared (bookAfter sw room first cs k) (handedOn (called sw W b k)) ks (call-same cs b k sh .1)
+
+  -- one list after another
+  force-append : (cs : List Correction) (ks js : List Call) → inForce sw room first cs (ks ++ js) ≡ inForce sw room first (inForce sw room first cs ks) js
+  unfolding inForce
+  force-append cs [] js = refl
+  force-append cs (k ∷ ks) js = force-append (bookAfter sw room first cs k) ks js
+
+  -- as many undos as there are corrections in force
+  force-undone : (cs : List Correction) → inForce sw room first cs (replicate (length cs) undoing) ≡ []
+  unfolding inForce bookAfter
+  force-undone [] = refl
+  force-undone (c ∷ cs) = force-undone cs
+
+-- ---- the start
+
+-- a text that reads is not too long
+reads-short : (sw : Switches) (words : ℕ) (t : List ℕ) → reads sw words t ≡ true → length t ≤ maxText
+unfolding reads reading outcome isTaken
+reads-short sw words t e = go (leb (length t) maxText) refl e
+  where
+    go : (z : Bool) → leb (length t) maxText ≡ z
+        → isTaken (cond z (cond (isWhole (utf8 t)) (run sw (limitsOf words) (tokens sw t) (before false)) (refused 2 (wholeFront (utf8 t)))) (refused 1 maxText)) ≡ true
+        → length t ≤ maxText
+    go true e k = leb-true (length t) maxText e
+    go false e k = absurd (false≢true k)
+
+T-true : (b : Bool) → T b → b ≡ true
+T-true true t = refl
+T-true false t = absurd t
+
+fresh-shared : (sw : Switches) (words : ℕ) (b : Lent) → Fresh sw words b → Shared sw (roomOf words b) (textOf b) [] b
+unfolding roomOf textOf journalOf bookText bookJournal AllAccepted
+fresh-shared sw words b f =
+    let r : reads sw words (textOf b) ≡ true = T-true (reads sw words (textOf b)) (f .first-reads) in
+    let s = reads-short sw words (textOf b) r in
+    let w = f .within in
+    let l : length (textOf b) ≡ b .used = length-take-le (b .used) (b .text) w in
+    let z = f .empty in
+    record {
+      textRoom = refl;
+      journalRoom = refl;
+      usedFits = w;
+      keptFits = omega arith;
+      used = sym l;
+      kept = z;
+      texts = refl;
+      journals = ap (λ (n : ℕ). take n (b .journal)) z;
+      force = (omega arith, r);
+    }
+
+-- ---- demand 3
+
+-- Document 00's sentences, and where each stands in `Demand3` (specs/Book.antt):
+-- "Start with a text that reads and an empty journal."  `Fresh`, on buffers of any lengths that hold any bytes past the lengths in use.
+-- "Take any list of corrections and undos, refused ones included, with any node numbers and replacements."  `ks`, any list of `Call`.
+-- "Each call gets the text, journal and table buffers as the last one left them, and the lengths last answered. Nobody else writes them
+--   meanwhile."  `calls`, by `handedOn`.
+-- "After every such list the text is the first text with the corrections in force made in order"  the `text` that `told` gives, `bookText`.
+-- "and the table that its last call left is that text's reading."  the `table` that `told` gives: of the last call, as of each before it.
+-- "In force are the accepted ones not undone; an undo takes back the latest of them."  `bookAfter`.
+-- "Each answer, and the journal in use, are those of document 01's plain book."  the `answer` and the `journal` that `told` gives.
+-- "A correction is refused exactly when document 01 says"  the answer's number is `bookRefusal`; "an undo exactly when none is in force"
+--   it is `bookNumber` (and `undo-refused` below). "Undoing all in force gives back the first text byte for byte."  `undo-all` below.
+--
+-- Document 01's sentences on the plain book:
+-- "is fed the first text, the lengths of the lent buffers and, for each call, whether it corrects or undoes, with a correction's node
+--   number and replacement; never an answer"  the arguments of `book`. "It keeps the corrections in force, each a node number and a
+--   replacement; at first none."  its list of `Correction`, at first `[]`.
+-- "Its text is the first text with these made in order: each replaces the bytes from word 2 to word 3 of its node, in the reading of the
+--   text so far."  `bookText`, by `corrected`. "A correction's entry is the bytes it replaces, then the trailer above."  `entryOf`.
+-- The three points on refusals:  `bookRefusal`, `bookNumber`, `bookAfter`. "Each answer is .. The journal in use is these entries in
+--   order."  `told`. "All this is a single claim about the list, not one for each call."  one equation between two lists, with an element
+--   for each call.
+pub demand-3 : (sw : Switches) → Demand3 sw
+unfolding Demand3 roomOf
+demand-3 sw words b fresh ks = all-same sw (roomOf words b) (textOf b) [] b ks (fresh-shared sw words b fresh)
+
+-- ---- what follows of the buffers and of the next call, after any list of calls
+
+module _ (sw : Switches) (words : ℕ) (b : Lent) where
+  abbrev room : Room
+  room = roomOf words b
+
+  -- the corrections in force after a list
+  abbrev pub force : List Call → List Correction
+  force ks = inForce sw room (textOf b) [] ks
+
+  -- the buffers and lengths after a list
+  abbrev pub lent : List Call → Lent
+  lent ks = after sw words b ks
+
+  module _ (fresh : Fresh sw words b) (ks : List Call) where
+    lent-shared : Shared sw room (textOf b) (force ks) (lent ks)
+    unfolding roomOf
+    lent-shared = all-shared sw room (textOf b) [] b ks (fresh-shared sw words b fresh)
+
+    next-same : (k : Call)
+        → Same sw room (textOf b) (force ks) (lent ks) (bookNumber sw room (textOf b) (force ks) k) (bookAfter sw room (textOf b) (force ks) k)
+        (called sw words (lent ks) k)
+    unfolding roomOf
+    next-same k = call-same sw room (textOf b) (force ks) (lent ks) k lent-shared
+
+    -- "After every such list the text is the first text with the corrections in force made in order", the empty list included
+    pub text-after : textOf (lent ks) ≡ bookText sw room (textOf b) (force ks)
+    text-after = lent-shared .texts
+
+    pub journal-after : journalOf (lent ks) ≡ bookJournal sw room (textOf b) (force ks)
+    journal-after = lent-shared .journals
+
+    -- "the table that its last call left is that text's reading"
+    pub table-next : (k : Call)
+        → called sw words (lent ks) k .table ≡ tableOf words (reading sw words (textOf (handedOn (called sw words (lent ks) k))))
+    unfolding roomOf told seenOf
+    table-next k =
+        ap (λ (s : Seen). s .table) (next-same k .0)
+        ∙ ap (λ (t : List ℕ). tableOf words (reading sw words t)) (sym (next-same k .1 .texts))
+
+    -- "A correction is refused exactly when document 01 says": the number is the book's
+    pub number-next : (k : Call) → called sw words (lent ks) k .answer .number ≡ bookNumber sw room (textOf b) (force ks) k
+    unfolding told seenOf
+    number-next k = ap (λ (s : Seen). s .answer .number) (next-same k .0)
+
+    -- "an undo exactly when none is in force": it is refused with 17 then
+    pub undo-refused : force ks ≡ [] → called sw words (lent ks) undoing .answer .number ≡ 17
+    unfolding bookNumber
+    undo-refused e = number-next undoing ∙ ap (λ (cs : List Correction). bookNumber sw room (textOf b) cs undoing) e
+
+    -- and in no other case
+    pub undo-refused-only : (called sw words (lent ks) undoing .answer .number ≡ 0 → ⊥) → force ks ≡ []
+    unfolding bookNumber
+    undo-refused-only refusal = go (force ks) refl
+      where
+        go : (cs : List Correction) → force ks ≡ cs → cs ≡ []
+        go [] e = refl
+        go (c ∷ cs) e = absurd (refusal (number-next undoing ∙ ap (λ (ds : List Correction). bookNumber sw room (textOf b) ds undoing) e))
+
+  -- "Undoing all in force gives back the first text byte for byte"
+  pub undo-all : Fresh sw words b → (ks : List Call) → textOf (lent (ks ++ replicate (length (force ks)) undoing)) ≡ textOf b
+  unfolding bookText
+  undo-all fresh ks =
+      let undos : List Call = replicate (length (force ks)) undoing in
+      let none : force (ks ++ undos) ≡ [] = force-append sw room (textOf b) [] ks undos ∙ force-undone sw room (textOf b) (force ks) in
+      text-after fresh (ks ++ undos) ∙ ap (bookText sw room (textOf b)) none

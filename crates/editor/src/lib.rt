@@ -1,0 +1,2 @@
+// The editor: correction of one value, and undo, on lent buffers.
+pub mod edit;
