@@ -1,7 +1,8 @@
--- The laws of the editor's definitions, and demand 3's theorem.
+-- The laws of the editor's definitions, demand 3's theorem, and document 01's starred cases.
 pub mod SpliceLaws
 pub mod EntryLaws
 pub mod BookLaws
 pub mod UndoLaws
 pub mod Demand3
 pub mod Computing
+pub mod Cases

@@ -14,6 +14,5 @@ pub mod BodyRun
 pub mod ValueRun
 pub mod ContentLaws
 pub mod Computing
-pub mod Cases
 pub mod ReadRun
 pub mod PlaceBound

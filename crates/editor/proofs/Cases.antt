@@ -1,5 +1,5 @@
--- The cases of a reading and of a content that document 01 marks with a star ("Both sides of each line"), proved of the definitions
--- together, as one table: by computation.
+-- The cases that document 01 marks with a star ("Both sides of each line"), proved of the definitions together, as one table: by
+-- computation.
 -- Assumes nothing.
 use mathlib.Core.Path.{_≡_, refl}
 use Prim.Native.Nat.{ℕ, _*_}
@@ -8,11 +8,12 @@ use mathlib.Core.List.{List, [], _∷_, _++_}
 use lib.ListN.{replicate}
 use Rattle.text.specs.Switches.{presentEdition}
 use Rattle.text.specs.Bytes.{ascii}
 use Rattle.reader.specs.Tree.{nodeWords, noParent}
 use Rattle.reader.specs.Syntax.{Outcome, refused}
 use Rattle.reader.specs.Reading as R
 use Rattle.reader.specs.Content as C
-use Rattle.reader.proofs.Computing.{readings}
+use Rattle.editor.specs.Edit as E
+use Rattle.editor.proofs.Computing.{editing}
 
 -- a text's reading in the present edition into a table of ten nodes
 abbrev pub read : String → Outcome
@@ -25,6 +26,10 @@ Table s nodes rest words = (R.nodeCount (read s) ≡ nodes) × (R.tableOf (nodeW
 -- the content call on a span of a text, with an output of 8 bytes that hold 1
 abbrev pub call : String → (start stop : ℕ) → C.Answer
 call s start stop = C.contentCall presentEdition start stop (ascii s) (replicate 8 1)
+
+-- `[1, null]` in a text buffer of 16 bytes, with an empty journal of 20, where all other bytes hold 1: node 2 replaced by `12.5`
+abbrev pub replaced : E.Result
+replaced = E.correct presentEdition (nodeWords * 10) (E.lentOf (ascii "[1, null]" ++ replicate 7 1) 9 (replicate 20 1) 0) 2 (ascii "12.5")
 
 pub record Starred : Type 0 where
   -- "empty text: 7 at 0"
@@ -61,9 +66,20 @@ pub record Starred : Type 0 where
   pub two-pads : read "[b64\"ZHVwZXI==\"]" ≡ refused 4 1
   -- "`[r#""##]`: 3 at 6"
   pub hash-left : read "[r#\"\"##]" ≡ refused 3 6
+  -- "Node 2 there, replaced by `12.5`: `[1, 12.5]`, journal 6E 75 6C 6C 04 00 00 00 04 00 00 00 10 00 00 00"
+  pub correction : replaced .answer ≡ record { number = 0; place = 0; nodes = 3; used = 9; kept = 16 }
+  pub correction-text : replaced .lent .text ≡ ascii "[1, 12.5]" ++ replicate 7 1
+  pub correction-journal :
+      replaced .lent .journal
+      ≡ 0x6E ∷ 0x75 ∷ 0x6C ∷ 0x6C ∷ 0x04 ∷ 0x00 ∷ 0x00 ∷ 0x00 ∷ 0x04 ∷ 0x00 ∷ 0x00 ∷ 0x00 ∷ 0x10 ∷ 0x00 ∷ 0x00 ∷ 0x00 ∷ 1 ∷ 1 ∷ 1 ∷ 1 ∷ []
+  pub correction-table :
+      replaced .table
+      ≡ (2 ∷ noParent ∷ 0 ∷ 9 ∷ 0 ∷ 0 ∷ 0 ∷ 0 ∷ 3 ∷ 2 ∷ 0 ∷ 0
+      ∷ 6 ∷ 0 ∷ 1 ∷ 2 ∷ 0 ∷ 0 ∷ 0 ∷ 0 ∷ 2 ∷ 1 ∷ 0 ∷ 0
+      ∷ 7 ∷ 0 ∷ 4 ∷ 8 ∷ 0 ∷ 0 ∷ 0 ∷ 0 ∷ 3 ∷ 125 ∷ 0 ∷ 999 ∷ []) ++ replicate 84 0
 
 pub starred : Starred
-unfolding readings
+unfolding editing
 starred = record {
   empty-text = refl;
   lone-comma = (refl, refl);
@@ -78,4 +94,8 @@ starred = record {
   duper-written = refl;
   two-pads = refl;
   hash-left = refl;
+  correction = refl;
+  correction-text = refl;
+  correction-journal = refl;
+  correction-table = refl;
 }
