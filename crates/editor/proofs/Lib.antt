@@ -1,6 +1,7 @@
 -- The laws of the editor's definitions, demand 3's theorem, and document 01's starred cases.
 pub mod SpliceLaws
 pub mod EntryLaws
+pub mod BufferLaws
 pub mod BookLaws
 pub mod UndoLaws
 pub mod Demand3

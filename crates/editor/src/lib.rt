@@ -1,2 +1,3 @@
 // The editor: correction of one value, and undo, on lent buffers.
+pub mod buffers;
 pub mod edit;

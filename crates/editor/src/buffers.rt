@@ -1,0 +1,48 @@
+// Bytes put into lent buffers: over what stands there, from a place on.
+ghost use mathlib.Core.Path.{_≡_};
+ghost use Prim.Native.Nat.{_≤_, _+_, _-_};
+ghost use lib.ListN.{length, replicate};
+ghost use Rattle.editor.specs.Edit.{splice, withText, overwritten};
+
+// Writes the bytes of `src` over those of `dst` from `at` on.
+pub fn put_at(src: &[u8], dst: &mut [u8], at: usize)
+    requires { ⌜ at + length (now src) ≤ length (now dst) ⌝ }
+    ensures { λ _. ⌜ now (dst .exit) ≡ overwritten at (now (src .entry)) (now (dst .entry)) ⌝ }
+{
+    let mut i = 0;
+    while i < src.len() {
+        dst[at + i] = src[i];
+        i += 1;
+    }
+}
+
+// Makes the bytes of `dst` from `from` to before `to` zero. If there are none between, it changes nothing.
+pub fn zero_out(dst: &mut [u8], from: usize, to: usize)
+    requires { ⌜ to ≤ length (now dst) ⌝ }
+    ensures { λ _. ⌜ now (dst .exit) ≡ overwritten from (replicate (to - from) 0) (now (dst .entry)) ⌝ }
+{
+    let mut i = from;
+    while i < to {
+        dst[i] = 0;
+        i += 1;
+    }
+}
+
+// Puts a new text in place of one of `used` bytes at the front of `dst`, with zeros where the old one was longer.
+pub fn put_text(dst: &mut [u8], used: usize, new: &[u8])
+    requires { ⌜ (used ≤ length (now dst)) × (length (now new) ≤ length (now dst)) ⌝ }
+    ensures { λ _. ⌜ now (dst .exit) ≡ withText used (now (new .entry)) (now (dst .entry)) ⌝ }
+{
+    put_at(new, dst, 0);
+    zero_out(dst, new.len(), used);
+}
+
+// Puts at the front of `dst` the text with the bytes from `start` to before `stop` replaced.
+pub fn put_splice(text: &[u8], start: usize, stop: usize, replacement: &[u8], dst: &mut [u8])
+    requires { ⌜ (start ≤ stop) × (stop ≤ length (now text)) × (start + length (now replacement) + (length (now text) - stop) ≤ length (now dst)) ⌝ }
+    ensures { λ _. ⌜ now (dst .exit) ≡ overwritten 0 (splice start stop (now (replacement .entry)) (now (text .entry))) (now (dst .entry)) ⌝ }
+{
+    put_at(&text[..start], dst, 0);
+    put_at(replacement, dst, start);
+    put_at(&text[stop..], dst, start + replacement.len());
+}
