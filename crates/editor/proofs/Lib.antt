@@ -2,6 +2,7 @@
 pub mod SpliceLaws
 pub mod EntryLaws
 pub mod BufferLaws
+pub mod JournalLaws
 pub mod BookLaws
 pub mod UndoLaws
 pub mod Demand3

@@ -1,3 +1,4 @@
 // The editor: correction of one value, and undo, on lent buffers.
 pub mod buffers;
 pub mod edit;
+pub mod journal;

@@ -1,0 +1,44 @@
+// The journal: numbers of 32 bits, low byte first, and entries.
+ghost use mathlib.Core.Path.{_≡_};
+ghost use Prim.Native.Nat.{_≤_, _<_, _+_};
+ghost use mathlib.Core.List.{_++_};
+ghost use lib.ListN.{length, drop};
+ghost use Rattle.editor.specs.Edit.{le32, fromLe32, trailer, overwritten};
+use crate::buffers::put_at;
+
+fn wide(b: u8) -> usize
+    ensures { λ r. ⌜ (r ≡ b) × (r < 256) ⌝ }
+{
+    b as usize
+}
+
+// Writes the four low bytes of n over those of `dst` from `at` on.
+fn put_number(dst: &mut [u8], at: usize, n: usize)
+    requires { ⌜ at + 4 ≤ length (now dst) ⌝ }
+    ensures { λ _. ⌜ now (dst .exit) ≡ overwritten at (le32 n) (now (dst .entry)) ⌝ }
+{
+    dst[at] = (n % 256) as u8;
+    dst[at + 1] = (n / 256 % 256) as u8;
+    dst[at + 2] = (n / 65536 % 256) as u8;
+    dst[at + 3] = (n / 16777216 % 256) as u8;
+}
+
+// The number that stands in four bytes from `at` on.
+pub fn number_at(s: &[u8], at: usize) -> usize
+    requires { ⌜ at + 4 ≤ length (now s) ⌝ }
+    ensures { λ r. ⌜ (r ≡ fromLe32 (drop at (now (s .entry)))) × (r < 4294967296) ⌝ }
+{
+    wide(s[at]) + wide(s[at + 1]) * 256 + wide(s[at + 2]) * 65536 + wide(s[at + 3]) * 16777216
+}
+
+// Writes an entry from `kept` on: the old bytes, then the trailer with `start`, the replacement's length `new`, and the entry's own length.
+pub fn put_entry(journal: &mut [u8], kept: usize, old: &[u8], start: usize, new: usize)
+    requires { ⌜ kept + length (now old) + 12 ≤ length (now journal) ⌝ }
+    ensures { λ _. ⌜ now (journal .exit) ≡ overwritten kept (now (old .entry) ++ trailer start new (length (now (old .entry)))) (now (journal .entry)) ⌝ }
+{
+    put_at(old, journal, kept);
+    let at = kept + old.len();
+    put_number(journal, at, start);
+    put_number(journal, at + 4, new);
+    put_number(journal, at + 8, old.len() + 12);
+}
