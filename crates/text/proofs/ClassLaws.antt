@@ -1,13 +1,12 @@
--- A class by its number, and the bytes of a word by their classes' numbers.
+-- A class by its number, and the one byte of the class 5.
 -- Assumes nothing.
 use mathlib.Core.Path.{_≡_, refl, sym, ap, _∙_, subst}
-use Prim.Native.Nat.{ℕ, zero, suc, _<_}
-use mathlib.Core.Bool.{Bool, true, false, not, cond, _&&_}
-use mathlib.Core.List.{List, [], _∷_}
-use lib.Dec.{T, leb, ltb, eqb, eqb→eq}
-use lib.ListN.{length, getD, replicate, length-replicate}
+use Prim.Native.Nat.{ℕ, _<_}
+use mathlib.Core.Bool.{Bool, true, cond}
+use lib.Dec.{T, eqb, eqb→eq}
+use lib.ListN.{length, replicate, length-replicate}
 use native.Mathlib.Omega.{arith}
-use Rattle.text.specs.Bytes.{Class, space, digit, capital, small, joiner, quote, tick, mark, slash, plus, other, classOf, classNumber, oneOf, isWordByte, isLetterOrDigit}
+use Rattle.text.specs.Bytes.{Class, space, digit, capital, small, joiner, quote, tick, mark, slash, plus, other, classOf, classNumber, oneOf}
 use Rattle.text.proofs.Table.{every, at}
 
 -- the class of a number
@@ -42,29 +41,6 @@ class-again other = refl
 -- the class of a byte whose class has this number
 pub class-by : (b n : ℕ) → n ≡ classNumber (classOf b) → classOf b ≡ classAt n
 class-by b n e = sym (class-again (classOf b)) ∙ ap classAt (sym e)
-
--- "letters, digits and joiners" are the classes 1 to 4
-isWordNumber : ℕ → Bool
-isWordNumber n = not (ltb n 1) && leb n 4
-
-agrees : ℕ → ℕ → Bool
-agrees b x = cond (isWordByte b) (isWordNumber (classNumber (classOf b))) (not (isWordNumber (classNumber (classOf b))))
-
-all-agree : T (every agrees 0 (replicate 256 0))
-unfolding agrees isWordNumber isWordByte isLetterOrDigit classOf classNumber oneOf
-all-agree = tt
-
-agreed : (a b : Bool) → T (cond a b (not b)) → a ≡ b
-agreed true true t = refl
-agreed true false t = absurd t
-agreed false true t = absurd t
-agreed false false t = refl
-
-pub word-number : (b n : ℕ) → b < 256 → n ≡ classNumber (classOf b) → isWordByte b ≡ (not (ltb n 1) && leb n 4)
-unfolding agrees isWordNumber
-word-number b n h e =
-    let l = length-replicate {A = ℕ} 256 0 in
-    agreed (isWordByte b) (isWordNumber (classNumber (classOf b))) (at agrees (replicate 256 0) all-agree b (omega arith)) ∙ ap isWordNumber (sym e)
 
 -- the class 5 has one byte
 oneQuote : ℕ → ℕ → Bool
