@@ -5,5 +5,6 @@ pub mod TokenLaws
 pub mod PlaceLaws
 pub mod NextLaws
 pub mod LocalLaws
+pub mod FaultLaws
 pub mod AloneLaws
 pub mod PartLaws

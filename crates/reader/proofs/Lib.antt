@@ -16,3 +16,4 @@ pub mod ContentLaws
 pub mod Computing
 pub mod ReadRun
 pub mod PlaceBound
+pub mod NumberBound
