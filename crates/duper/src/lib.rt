@@ -5,6 +5,9 @@ ghost use Rattle.text.specs.Switches.{presentEdition};
 ghost use Rattle.reader.specs.Reading.{reading, tableOf};
 ghost use Rattle.reader.specs.Content.{contentCall, written, contentNumber};
 ghost use Rattle.duper.specs.Numbers.{readNumber};
+ghost use Rattle.duper.specs.Internal.{verdictNumber, PlaceFits, wordsOf};
+use editor::edit::Change;
+use editor::edit::Verdict;
 use reader::content::Given;
 use reader::read::Reading;
 
@@ -28,5 +31,18 @@ pub extern "C" fn duper_content(text: &[u8], start: u64, end: u64, out: &mut [u8
     match reader::content::content(text, start as usize, end as usize, out) {
         Given::Bytes(count) => count as u64,
         Given::Refused(number) => number as u64 * 4294967296,
+    }
+}
+
+// The refusal times 4294967296 plus its place, or 0; and the three numbers beside it, into `answer`.
+fn tell(change: Change, answer: &mut [u64; 3]) -> u64
+    requires { ⌜ PlaceFits (change .verdict) ⌝ }
+    ensures { λ r. ⌜ (r ≡ verdictNumber (change .verdict)) × (now (answer .exit) ≡ wordsOf change) ⌝ }
+{
+    *answer = [change.nodes as u64, change.used as u64, change.kept as u64];
+    let verdict = change.verdict;
+    match verdict {
+        Verdict::Done => 0,
+        Verdict::Refused(number, place) => number as u64 * 4294967296 + place as u64,
     }
 }
