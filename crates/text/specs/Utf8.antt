@@ -31,14 +31,17 @@ unfoldable pub later : (n read more : ℕ) → Utf8
 later n read zero = Whole (n + read + 1)
 later n read (suc more) = Part n (read + 1) more 0x80 0xBF
 
+-- one byte more: a character's first, or a later one, which must lie in the range that is due; once broken, it stays so
 unfoldable pub utf8Step : Utf8 → ℕ → Utf8
 utf8Step (Whole n) b = lead n b
 utf8Step (Part n read more low high) b = cond (ltb b low) (Broken n) (cond (leb b high) (later n read more) (Broken n))
 utf8Step (Broken n) b = Broken n
 
+-- the machine at a text's end
 unfoldable pub utf8 : List ℕ → Utf8
 utf8 s = feed utf8Step (Whole 0) s
 
+-- all that was read is whole characters
 unfoldable pub isWhole : Utf8 → Bool
 isWhole (Whole n) = true
 isWhole (Part n read more low high) = false
@@ -50,14 +53,15 @@ wholeFront (Whole n) = n
 wholeFront (Part n read more low high) = n
 wholeFront (Broken n) = n
 
+-- "UTF-8 (RFC 3629: no surrogates, no overlong forms, nothing above U+10FFFF)"
 unfoldable pub isUtf8 : List ℕ → Bool
 isUtf8 s = isWhole (utf8 s)
 
--- the scalar values: 0 to U+D7FF, and U+E000 to U+10FFFF
+-- "scalar values": 0 to U+D7FF, and U+E000 to U+10FFFF
 unfoldable pub isScalar : ℕ → Bool
 isScalar v = ltb v 0xD800 || within 0xE000 0x10FFFF v
 
--- the UTF-8 of a scalar value
+-- "give their UTF-8": the bytes of a scalar value
 unfoldable pub encode : ℕ → Few
 encode v =
     cond (leb v 0x7F) (One v)
