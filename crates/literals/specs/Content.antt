@@ -23,16 +23,17 @@ use Rattle.literals.specs.declared.content.Measure.the-variants as M
 use Rattle.literals.specs.declared.content.Written.{Written}
 use Rattle.literals.specs.declared.content.Written.the-variants as W
 
--- the decoder's next state, with bytes of content or with none
+-- the decoder's next state, and the bytes of content known with it
 abbrev pub gives : Decoder → Few → Decoded
 gives state out = record { state = state; out = out }
 
+-- the next state, with no byte of content
 abbrev pub on : Decoder → Decoded
 on state = gives state Zero
 
 -- ---- the quoted forms, `"` and `b"`
 
--- the byte that a one-letter escape gives, `\0 \b \t \n \f \r \" \\`
+-- "Escapes, quoted forms only: `\0 \b \t \n \f \r \" \\`": the byte that each gives, by 000's table
 unfoldable pub oneLetter : ℕ → Option ℕ
 oneLetter b =
     cond (is "0" b) (some 0x00)
@@ -50,11 +51,12 @@ unfoldable pub hexDone : (byte : Bool) (v : ℕ) → Decoded
 hexDone true v = gives Plain (One v)
 hexDone false v = cond (isScalar v) (gives Plain (encode v)) (on Bad)
 
--- a hex digit of value d, where `left` are due after it
+-- a hex digit has been read: v is the value with it, and `left` digits are due
 unfoldable pub hexDigit : (byte : Bool) (left v : ℕ) → Decoded
 hexDigit byte zero v = hexDone byte v
 hexDigit byte (suc left) v = on (Hex byte left v)
 
+-- a byte where a hex digit is due and `left` more after it: v is the value so far
 unfoldable pub hexStep : (byte : Bool) (left v b : ℕ) → Decoded
 hexStep byte left v b = cond (isDigitIn 16 b) (hexDigit byte left (v * 16 + digitValue b)) (on Bad)
 
@@ -68,10 +70,11 @@ module _ (sw : Switches) where
       || within 0x0B 0x1F b
       || eqb b 0x7F
 
+  -- a byte outside an escape: a backslash opens one, any other byte that isn't refused stands for itself
   unfoldable pub plainStep : ℕ → Decoded
   plainStep b = cond (is "\\" b) (on Escape) (cond (quotedRefuses b) (on Bad) (gives Plain (One b)))
 
-  -- "`\xHH`, `\uHHHH`, `\UHHHHHHHH`; no others"
+  -- "`\xHH`, `\uHHHH`, `\UHHHHHHHH`; no others, so JSON's `\/` is refused"; whether `\U` is one is the edition's
   unfoldable pub manyDigits : ℕ → Decoded
   manyDigits b =
       cond (is "x" b) (on (Hex true 1 0))
@@ -79,10 +82,12 @@ module _ (sw : Switches) where
       (cond (sw .«long_escape» && is "U" b) (on (Hex false 7 0))
       (on Bad)))
 
+  -- the byte after a backslash, with what a one-letter escape gives if it is one
   unfoldable pub escaped : ℕ → Option ℕ → Decoded
   escaped b (some v) = gives Plain (One v)
   escaped b none = manyDigits b
 
+  -- the byte after a backslash
   unfoldable pub escapeStep : ℕ → Decoded
   escapeStep b = escaped b (oneLetter b)
 
@@ -98,12 +103,13 @@ module _ (sw : Switches) where
       || within 0x0E 0x1F b
       || eqb b 0x7F
 
+  -- a byte of a raw string: if it isn't refused, it stands for itself
   unfoldable pub rawStep : ℕ → Decoded
   rawStep b = cond (rawRefuses b) (on Bad) (gives Verbatim (One b))
 
 -- ---- `b64"`: RFC 4648, section 4
 
--- the value of a byte of the alphabet; 64 for any other
+-- "the alphabet of RFC 4648 section 4": the value of each of its bytes; 64 for any other byte
 unfoldable pub sextet : ℕ → ℕ
 sextet b =
     cond (isCapital b) (b - code "A")
@@ -136,11 +142,13 @@ digitsStep q rest b =
     (cond (is "=" b) (cond (wholeBytes q rest) (pad ((4 - q) % 4)) (on Bad))
     (cond (ltb (sextet b) 64) (base64Digit q rest (sextet b)) (on Bad)))
 
+-- a byte after a pad, where `left` more may stand: "spaces ignored anywhere, pads last"
 unfoldable pub padsStep : (left b : ℕ) → Decoded
 padsStep left b = cond (isSpace b) (on (Pads left)) (cond (is "=" b) (pad left) (on Bad))
 
 -- ---- the decoder
 
+-- one byte more of a body
 unfoldable pub decodeStep : Switches → Decoder → ℕ → Decoded
 decodeStep sw Plain b = plainStep sw b
 decodeStep sw Escape b = escapeStep sw b
@@ -172,12 +180,14 @@ unfoldable pub decoded : Switches → Decoder → List ℕ → Option (List ℕ)
 decoded sw st [] = cond (mayEnd st) (some []) none
 decoded sw st (b ∷ s) = prepend (listed (decodeStep sw st b .out)) (decoded sw (decodeStep sw st b .state) s)
 
+-- the decoder before a body's first byte
 unfoldable pub startOf : Body → Decoder
 startOf Quoted = Plain
 startOf Raw = Verbatim
 startOf Base64 = Digits 0 0
 startOf Word = Letters
 
+-- the content of a whole body, its UTF-8 not looked at
 unfoldable pub content : Switches → Body → List ℕ → Option (List ℕ)
 content sw body s = decoded sw (startOf body) s
 
@@ -192,11 +202,12 @@ contentOf sw text body s = cond text (onlyUtf8 (content sw body s)) (content sw 
 
 -- ---- what the functions answer
 
+-- how long a content is, if there is one
 unfoldable pub measured : Option (List ℕ) → Measure
 measured none = M.Refused
 measured (some bytes) = M.Length (length bytes)
 
--- a content and the room for it
+-- what writing a content answers: its length, or that there is none, or no room for it
 unfoldable pub fitted : (room : ℕ) → Option (List ℕ) → Written
 fitted room none = W.Refused
 fitted room (some bytes) = cond (leb (length bytes) room) (W.Bytes (length bytes)) W.NoRoom

@@ -85,6 +85,7 @@ pub record Apart (abody : Body) (a : List ℕ) (bbody : Body) (b : List ℕ) (r 
 
 -- ---- cursors
 
+-- a cursor from its parts
 abbrev pub cursorAt : ℕ → Decoder → Few → Cursor
 cursorAt place state out = record { place = place; state = state; out = out }
 
@@ -102,10 +103,12 @@ pub record Step (sw : Switches) (s : List ℕ) (c : Cursor) (b : ℕ) (k : Curso
   pub sound : Sound (k .state)
   pub less : weight s k < weight s c
 
+-- what the content from a cursor on is, by the code's answer
 abbrev pub PieceIs : Switches → List ℕ → Cursor → Piece → Type 0
 PieceIs sw s c (P.Byte b k) = Step sw s c b k
 PieceIs sw s c P.End = rest sw s c ≡ some []
 PieceIs sw s c P.Bad = rest sw s c ≡ none
 
+-- the same as a record
 pub record Pieced (sw : Switches) (s : List ℕ) (c : Cursor) (r : Piece) : Type 0 where
   pub is : PieceIs sw s c r

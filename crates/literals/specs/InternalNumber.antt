@@ -12,6 +12,7 @@ use Rattle.literals.specs.declared.number.Number.the-variants.{Start, Ba
 unfoldable pub cap : ℕ → ℕ
 cap n = cond (leb n 10000000000000000000) n 10000000000000000000
 
+-- a state with its digits and its exponent capped
 unfoldable pub capped : Number → Number
 capped Start = Start
 capped Bad = Bad

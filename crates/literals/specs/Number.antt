@@ -13,15 +13,19 @@ use Rattle.literals.specs.declared.number.Number.the-variants.{Start, Ba
 use Rattle.literals.specs.declared.number.Meaning.{Meaning}
 use Rattle.literals.specs.declared.number.Meaning.the-variants.{Integer, Decimal, Malformed, TooWide}
 
+-- a "sign": `+` or `-`
 abbrev pub isSign : ℕ → Bool
 isSign b = is "+" b || is "-" b
 
+-- the digit 0
 abbrev pub isZero : ℕ → Bool
 isZero b = is "0" b
 
+-- "a nonzero digit"
 abbrev pub isOneToNine : ℕ → Bool
 isOneToNine b = between "1" "9" b
 
+-- "`e`/`E`"
 abbrev pub isE : ℕ → Bool
 isE b = is "e" b || is "E" b
 
@@ -29,10 +33,12 @@ isE b = is "e" b || is "E" b
 abbrev pub andDigit : (base m b : ℕ) → ℕ
 andDigit base m b = m * base + digitValue b
 
--- the base that a letter after a first 0 names, `0x` `0o` `0b` in small letters; 0 for any other byte
+-- the base that a letter after a first 0 names: "`0x` `0o` `0b` in small letters"; 0 for any other byte
 unfoldable pub baseOf : ℕ → ℕ
 baseOf b = cond (is "x" b) 16 (cond (is "o" b) 8 (cond (is "b" b) 2 0))
 
+-- one byte more of a number token: each sentence stands above the clauses that state it. `places` is the "count of fraction digits",
+-- `below` the exponent's minus.
 unfoldable pub numberStep : Number → ℕ → Number
 -- "optional sign, then one digit, or a nonzero digit followed by more"
 numberStep Start b = cond (isSign b) (Sign (is "-" b)) (cond (isZero b) (Zero false false) (cond (isOneToNine b) (Digit false (digitValue b)) Bad))
@@ -60,7 +66,7 @@ numberStep (Fraction minus m places) b =
     (cond (is "_" b) (FractionGap minus m places)
     (cond (isE b) (Mark minus m places) Bad))
 numberStep (FractionGap minus m places) b = cond (isDigitIn 10 b) (Fraction minus (andDigit 10 m b) (suc places)) Bad
--- "an exponent written as a decimal integer. So `1e06` is refused with 3"
+-- "an exponent written as a decimal integer .. So `1e06` is refused with 3"
 numberStep (Mark minus m places) b =
     cond (isSign b) (ExpSign minus m places (is "-" b))
     (cond (isZero b) (ExpZero minus m places false)
@@ -79,6 +85,7 @@ numberStep Bad b = Bad
 abbrev pub most : ℕ
 most = 9223372036854775807
 
+-- n, or -n after a minus
 abbrev pub signedBy : (minus : Bool) → ℕ → ℤ
 signedBy minus n = cond minus (negℤ (pos n)) (pos n)
 
@@ -111,5 +118,6 @@ meaning (ExpZero minus m places below) = asDecimal minus m (negℤ (pos places))
 meaning (ExpDigit minus m places below exp) = asDecimal minus m (signedBy below exp +ℤ negℤ (pos places))
 meaning (ExpGap minus m places below exp) = Malformed
 
+-- the meaning of a number token's bytes
 unfoldable pub number : List ℕ → Meaning
 number s = meaning (feed numberStep Start s)

@@ -15,6 +15,7 @@ shapeStep Good b = cond (isLetterOrDigit b) Good (cond (isJoiner b) Joined Bad)
 shapeStep Joined b = cond (isLetterOrDigit b) Good Bad
 shapeStep Bad b = Bad
 
+-- the bytes so far have the shape
 unfoldable pub isGood : Shape → Bool
 isGood Start = false
 isGood Lead = false
@@ -22,5 +23,6 @@ isGood Good = true
 isGood Joined = false
 isGood Bad = false
 
+-- the bytes are a "word of the shape"
 unfoldable pub hasShape : List ℕ → Bool
 hasShape s = isGood (feed shapeStep Start s)
