@@ -29,7 +29,7 @@ found at (gap more) = F.Gap (at + suc more)
 found at (token form more) = F.Token (kindOf form) (at + suc more)
 found at (fault number) = F.Fault number
 
--- "What stands at a place of a text"; past the end nothing does
+-- what stands at a place of a text; from its end on nothing does
 unfoldable pub foundAt : Switches → List ℕ → (at : ℕ) → Found
 foundAt sw s at = cond (ltb at (length s)) (found at (itemAt sw s at)) F.Nothing
 

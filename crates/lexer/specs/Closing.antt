@@ -24,6 +24,8 @@ module _ (escapes : Bool) (k : ℕ) where
   unfoldable pub afterOther : (n b : ℕ) → Closing
   afterOther n b = cond (is "\"" b) (afterQuote 0 (suc n)) (cond (is "\\" b && escapes) (C.Escaped (suc n)) (C.Inside (suc n)))
 
+  -- one byte more: "a backslash takes the next byte with it"; after a quote hashes count, and any other byte goes on as if no closing had
+  -- begun
   unfoldable pub closingStep : Closing → ℕ → Closing
   closingStep (C.Inside n) b = afterOther n b
   closingStep (C.Escaped n) b = C.Inside (suc n)

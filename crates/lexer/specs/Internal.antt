@@ -32,17 +32,20 @@ closingRead (C.Escaped n) = n
 closingRead (C.Hashes j n) = j + n
 closingRead (C.Closed n) = n
 
+-- the string has ended
 unfoldable pub isClosed : Closing → Bool
 isClosed (C.Inside n) = false
 isClosed (C.Escaped n) = false
 isClosed (C.Hashes j n) = false
 isClosed (C.Closed n) = true
 
+-- the bytes that the machine of comments has counted
 unfoldable pub blockRead : Block → ℕ
 blockRead (B.Inside n) = n
 blockRead (B.Starred n) = n
 blockRead (B.Closed n) = n
 
+-- the comment has ended
 unfoldable pub isShut : Block → Bool
 isShut (B.Inside n) = false
 isShut (B.Starred n) = false
@@ -71,6 +74,7 @@ isKeyKind (K.Bytes n) = true
 isKeyKind (K.Integer z) = false
 isKeyKind (K.Decimal minus m p) = false
 
+-- there is a content
 unfoldable pub hasContent : Option (List ℕ) → Bool
 hasContent none = false
 hasContent (some content) = true

@@ -39,8 +39,9 @@ pub data Item : Type 0 where
   token : Form → (more : ℕ) → Item
   fault : (number : ℕ) → Item
 
--- ---- comments: "Comments may hold any characters"
+-- ---- comments
 
+-- "Comments may hold any characters"; one that doesn't end is 3, "malformed or unclosed token or comment"
 unfoldable pub blockItem : Block → Item
 blockItem (B.Inside n) = fault 3
 blockItem (B.Starred n) = fault 3
@@ -54,8 +55,9 @@ comment (b ∷ s) =
     (cond (is "*" b) (blockItem (block s))
     (fault 3))
 
--- ---- strings: a text or bytes, by the body between the quotes
+-- ---- strings
 
+-- a text with this content, or bytes
 abbrev pub stringForm : (isText : Bool) → List ℕ → Form
 stringForm true content = text content
 stringForm false content = bytes content
@@ -67,14 +69,15 @@ hasEscapes Y.Raw = false
 hasEscapes Y.Base64 = false
 hasEscapes Y.Word = false
 
--- a string that closes is a token if it has a content, and else 4
+-- a string that closes is a token if it has a content, and else 4, "string content"
 unfoldable pub contentItem : (isText : Bool) → (more : ℕ) → Option (List ℕ) → Item
 contentItem isText more (some content) = token (stringForm isText content) more
 contentItem isText more none = fault 4
 
--- the opening has `head` bytes after its first, `s` follows the opening, and k hashes stand after the closing quote;
--- a string that doesn't close is 3
+-- a string: a text or bytes, and how the body between its quotes is decoded
 module _ (sw : Switches) (isText : Bool) (body : Body) where
+  -- the opening has `head` bytes after its first, `s` follows the opening, and k hashes stand after the closing quote;
+  -- a string that doesn't close is 3, "malformed or unclosed token or comment"
   unfoldable pub closedItem : (head k : ℕ) → List ℕ → Closing → Item
   closedItem head k s (C.Closed n) = contentItem isText (head + n) (contentOf sw isText body (take (n - suc k) s))
   closedItem head k s (C.Inside n) = fault 3
@@ -86,6 +89,7 @@ module _ (sw : Switches) (isText : Bool) (body : Body) where
   unfoldable pub stringItem : (head k : ℕ) → List ℕ → Item
   stringItem head k s = closedItem head k s (closing (hasEscapes body) k s)
 
+-- the k of "A raw string with k hashes": the hashes before its opening quote
 unfoldable pub hashCount : List ℕ → ℕ
 hashCount s = front (is "#") s
 
@@ -150,11 +154,13 @@ module _ (sw : Switches) where
   itemOf Class.plus b s = numberItem b s
   itemOf Class.other b s = fault 3
 
+  -- the item whose first byte is b, with s after it: "Each of the 256 byte values has one class"
   unfoldable pub item : ℕ → List ℕ → Item
   item b s = itemOf (classOf b) b s
 
 -- ---- the tokens of a text
 
+-- a token and its span in the text; `stop` is the end: "Ends are one past"
 pub record Token : Type 0 where
   pub form : Form
   pub start : ℕ
@@ -179,19 +185,21 @@ module _ (sw : Switches) where
   cut (suc left) at (b ∷ s) = cut left (suc at) s
   cut zero at (b ∷ s) = afterItem at (item sw b s) (λ more. cut more (suc at) s)
 
+  -- "Then it is cut into tokens from the left, with spaces and comments skipped between them."
   unfoldable pub tokens : List ℕ → Tokens
   tokens s = cut 0 0 s
 
-  -- the item at a place of a text, and the tokens from there on
+  -- the item at a place of a text
   unfoldable pub itemAt : List ℕ → (at : ℕ) → Item
   itemAt s at = item sw (getD s at 0) (drop (suc at) s)
 
+  -- the tokens of a text from a place on
   unfoldable pub tokensFrom : List ℕ → (at : ℕ) → Tokens
   tokensFrom s at = cut 0 at (drop at s)
 
 -- ---- a single token
 
--- the content of a token that a string or key may be: "any string token or any word of the key shape"
+-- the content of a token, if it is "any string token or any word of the key shape"
 unfoldable pub keyContent : Form → Option (List ℕ)
 keyContent (mark b) = none
 keyContent (word s) = some s
