@@ -25,6 +25,7 @@ isSpan start stop text = leb start stop && leb stop (length text) && leb (stop -
 unfoldable pub contentAlone : Switches → (token : List ℕ) → Option (List ℕ)
 contentAlone sw token = cond (isUtf8 token) (tokenContent sw token) none
 
+-- "The content call is given the text and a span": the content of that span, if it has one
 unfoldable pub spanContent : Switches → (start stop : ℕ) → List ℕ → Option (List ℕ)
 spanContent sw start stop text = cond (isSpan start stop text) (contentAlone sw (part start stop text)) none
 
@@ -38,6 +39,7 @@ unfoldable pub fitting : (room : ℕ) → Option (List ℕ) → Answer
 fitting room none = refused 19
 fitting room (some content) = cond (leb (length content) room) (given content) (refused 20)
 
+-- what the content call answers, with this text and output
 unfoldable pub contentCall : Switches → (start stop : ℕ) (text out : List ℕ) → Answer
 contentCall sw start stop text out = fitting (length out) (spanContent sw start stop text)
 

@@ -24,13 +24,15 @@ maxText = 65536
 abbrev pub maxDepth : ℕ
 maxDepth = 32
 
--- "nodes at most the smaller of 4,096 and the lent table's words divided by 12, rounded down"
+-- "4,096": no reading has more nodes
 abbrev pub maxNodes : ℕ
 maxNodes = 4096
 
+-- "nodes at most the smaller of 4,096 and the lent table's words divided by 12, rounded down"
 unfoldable pub nodeLimit : (words : ℕ) → ℕ
 nodeLimit words = min maxNodes (words / nodeWords)
 
+-- the limits with a table of so many words
 unfoldable pub limitsOf : (words : ℕ) → Limits
 limitsOf words = record { depth = maxDepth; nodes = nodeLimit words }
 
@@ -47,10 +49,12 @@ outcome sw any limits text =
     (cond (isWhole (utf8 text)) (run sw limits (tokens sw text) (before any)) (refused 2 (wholeFront (utf8 text))))
     (refused 1 maxText)
 
--- the reading of a text into a table of so many words: "Root: object, array or tuple"
+-- a text read as a root, with a table of so many words: "Root: object, array or tuple". Document 01 calls the table itself its reading:
+-- that is `tableOf`.
 unfoldable pub reading : Switches → (words : ℕ) → List ℕ → Outcome
 reading sw words text = outcome sw false (limitsOf words) text
 
+-- the text is taken
 unfoldable pub isTaken : Outcome → Bool
 isTaken (taken tree) = true
 isTaken (refused number place) = false
@@ -59,11 +63,12 @@ isTaken (refused number place) = false
 unfoldable pub reads : Switches → (words : ℕ) → List ℕ → Bool
 reads sw words text = isTaken (reading sw words text)
 
--- "A refused reading .. leave every table word 0 and a node count of 0"
+-- "A refused reading .. leave .. a node count of 0"
 unfoldable pub nodeCount : Outcome → ℕ
 nodeCount (taken tree) = size tree
 nodeCount (refused number place) = 0
 
+-- "Its reading is the table that demand 2 then gives, zeros after the last node"; "A refused reading .. leave every table word 0"
 unfoldable pub tableOf : (words : ℕ) → Outcome → List ℕ
 tableOf words (taken tree) = padded words (rows noParent 0 tree)
 tableOf words (refused number place) = replicate words 0

@@ -47,30 +47,36 @@ pub data Mode : Type 0 where
   colon : (key : Span) → Mode  -- after a key
   done : Tree → Mode  -- after the whole value: nothing
 
--- `nodes`: how many values have begun
+-- the machine's state. `nodes`: how many values have begun
 pub record Config : Type 0 where
   pub stack : List Frame
   pub mode : Mode
   pub nodes : ℕ
 
+-- a state from its parts
 abbrev pub config : List Frame → Mode → (nodes : ℕ) → Config
 config stack mode nodes = record { stack = stack; mode = mode; nodes = nodes }
 
+-- an open container from its parts
 abbrev pub frame : Kind → Label → Forest → List (List ℕ) → Frame
 frame kind label children keys = record { kind = kind; label = label; children = children; keys = keys }
 
+-- a label from its parts
 abbrev pub label : (start : ℕ) (key name : Option Span) → Label
 label start key name = record { start = start; key = key; name = name }
 
+-- what a token leads to: the next state, or a refusal at the token's start
 pub data Step : Type 0 where
   go : Config → Step
   refuse : (number : ℕ) → Step
 
 -- ---- tokens, as the syntax sees them
 
+-- a token's span
 unfoldable pub spanOf : Token → Span
 spanOf t = record { start = t .start; stop = t .stop }
 
+-- the token is this bracket or mark
 unfoldable pub isMark : Char → Form → Bool
 isMark c (L.mark b) = is c b
 isMark c (L.word s) = false
@@ -79,11 +85,13 @@ isMark c (L.bytes s) = false
 isMark c (L.integer z) = false
 isMark c (L.decimal minus m p) = false
 
+-- the closing bracket
 abbrev pub closer : Kind → Char
 closer Object = "}"
 closer Array = "]"
 closer Tuple = ")"
 
+-- the container is an object: its children have keys
 abbrev pub isObject : Kind → Bool
 isObject Object = true
 isObject Array = false
@@ -104,6 +112,7 @@ pub data Begins : Type 0 where
   scalar : Scalar → Begins
   identifier nothing : Begins
 
+-- an opening bracket begins a container; any other mark begins nothing
 unfoldable pub markBegins : ℕ → Begins
 markBegins b = cond (is "{" b) (container Object) (cond (is "[" b) (container Array) (cond (is "(" b) (container Tuple) nothing))
 
@@ -112,6 +121,7 @@ unfoldable pub opensWithCapital : List ℕ → Bool
 opensWithCapital [] = false
 opensWithCapital (b ∷ s) = isCapital b
 
+-- 000: "Booleans are one of true or false", "Null is always null"; an identifier by its capital; any other word is no value
 unfoldable pub wordBegins : List ℕ → Begins
 wordBegins s =
     cond (sameBytes s (ascii "true")) (scalar T.trueValue)
@@ -119,6 +129,7 @@ wordBegins s =
     (cond (sameBytes s (ascii "null")) (scalar T.nullValue)
     (cond (opensWithCapital s) identifier nothing)))
 
+-- what a token with this span is the first of: a string or a number is a whole value
 unfoldable pub begins : Span → Form → Begins
 begins span (L.mark b) = markBegins b
 begins span (L.word s) = wordBegins s
@@ -129,13 +140,15 @@ begins span (L.decimal minus m p) = scalar (T.decimal minus m p)
 
 -- ---- values that end
 
+-- the head of a value with this label and end
 unfoldable pub headBy : Label → (stop : ℕ) → Head
 headBy l stop = record { value = record { start = l .start; stop = stop }; key = l .key; name = l .name }
 
+-- a head with another end
 unfoldable pub stopAt : ℕ → Head → Head
 stopAt stop head = record { value = record { start = head .value .start; stop = stop }; key = head .key; name = head .name }
 
--- a tree with another end: the bracket of its identifier
+-- a tree with another end: "its identifier and bracket included"
 unfoldable pub withStop : ℕ → Tree → Tree
 withStop stop (leaf head s) = leaf (stopAt stop head) s
 withStop stop (branch head kind children) = branch (stopAt stop head) kind children
@@ -152,13 +165,16 @@ ended stack nodes (some span) t = config stack (close t) nodes
 
 -- ---- one step
 
+-- the state in another mode
 abbrev pub goTo : Config → Mode → Step
 goTo c mode = go (config (c .stack) mode (c .nodes))
 
+-- a refusal if the test holds, or else the step
 unfoldable pub refuseIf : Bool → (number : ℕ) → Step → Step
 refuseIf true number s = refuse number
 refuseIf false number s = s
 
+-- the token is a comma
 abbrev pub isComma : Form → Bool
 isComma form = isMark "," form
 
@@ -193,6 +209,7 @@ module _ (limits : Limits) where
   unfoldable pub noNode : (fresh : Bool) → Config → Bool
   noNode fresh c = fresh && leb (limits .nodes) (c .nodes)
 
+  -- the values begun, with this one if it opens with this token
   unfoldable pub counted : (fresh : Bool) → Config → ℕ
   counted fresh c = cond fresh (suc (c .nodes)) (c .nodes)
 
@@ -241,11 +258,13 @@ module _ (sw : Switches) (limits : Limits) where
   modeStep c t (colon key) = cond (isMark ":" (t .form)) (goTo c (value true (some key))) (refuse 7)
   modeStep c t (done tree) = refuse 7
 
+  -- what the state's mode does with a token
   unfoldable pub step : Config → Token → Step
   step c t = modeStep c t (c .mode)
 
 -- ---- all the tokens
 
+-- what a text comes to: a tree, or a refusal and its place
 pub data Outcome : Type 0 where
   taken : Tree → Outcome
   refused : (number place : ℕ) → Outcome
@@ -260,6 +279,7 @@ atEnd place (inside slot) = refused 7 place
 atEnd place (colon key) = refused 7 place
 atEnd place (done tree) = taken tree
 
+-- after a token that begins at `place`: the rest of the run, or the refusal there
 unfoldable pub afterStep : (place : ℕ) → Step → (Config → Outcome) → Outcome
 afterStep place (go c) rest = rest c
 afterStep place (refuse number) rest = refused number place

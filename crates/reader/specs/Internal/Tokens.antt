@@ -20,12 +20,13 @@ use Rattle.reader.specs.declared.tree.Begin.the-variants as B
 use Rattle.reader.specs.Tree.{Span, Scalar, trueValue, falseValue, nullValue, scalarNumber, scalarWords}
 use Rattle.reader.specs.Syntax.{begins, container, scalar, identifier, nothing, spanOf, opensWithCapital}
 
--- the form of the token at a place; a mark 0 where no token is
+-- an item's form; a mark 0 if it is no token
 unfoldable pub formOf : Item → Form
 formOf (L.gap more) = L.mark 0
 formOf (L.token form more) = form
 formOf (L.fault number) = L.mark 0
 
+-- the form of the token at a place
 unfoldable pub formAt : Switches → List ℕ → ℕ → Form
 formAt sw s at = formOf (itemAt sw s at)
 
@@ -44,6 +45,7 @@ pub record TokenAt (sw : Switches) (s : List ℕ) (k : TokenKind) (start stop : 
 unfoldable pub leafOf : Scalar → Leaf
 leafOf s = record { kind = scalarNumber s; a = getD (scalarWords s) 0 0; b = getD (scalarWords s) 1 0; c = getD (scalarWords s) 2 0 }
 
+-- the token from `start` to `stop` is a scalar with these words
 pub record LeafIs (sw : Switches) (s : List ℕ) (start stop : ℕ) (leaf : Leaf) : Type 0 where
   pub value : Scalar
   pub is : begins (spanOf (tokenAt sw s start stop)) (formAt sw s start) ≡ scalar value
@@ -56,13 +58,15 @@ BeginIs sw s start stop (B.Scalar leaf) = LeafIs sw s start stop leaf
 BeginIs sw s start stop B.Identifier = begins (spanOf (tokenAt sw s start stop)) (formAt sw s start) ≡ identifier
 BeginIs sw s start stop B.Nothing = begins (spanOf (tokenAt sw s start stop)) (formAt sw s start) ≡ nothing
 
+-- the same as a record
 pub record Begun (sw : Switches) (s : List ℕ) (start stop : ℕ) (r : Begin) : Type 0 where
   pub is : BeginIs sw s start stop r
 
--- what a mark begins, and what a word of these bytes does
+-- what a mark begins
 unfoldable pub markBegin : ℕ → Begin
 markBegin b = cond (is "{" b) (B.Container Object) (cond (is "[" b) (B.Container Array) (cond (is "(" b) (B.Container Tuple) B.Nothing))
 
+-- what a word of these bytes begins
 unfoldable pub wordBegin : List ℕ → Begin
 wordBegin s =
     cond (sameBytes s (ascii "true")) (B.Scalar (leafOf trueValue))

@@ -37,6 +37,7 @@ use Rattle.reader.specs.Internal.Tokens.{formAt, tokenAt, TokenAt}
 unfoldable pub spanAt : (a e : ℕ) → Option Span
 spanAt a e = cond (eqb e 0) none (some (record { start = a; stop = e }))
 
+-- the label that the code's spans say
 unfoldable pub labelOf : Spans → Label
 labelOf p = label (p .start) (spanAt (p .key) (p .keyend)) (spanAt (p .name) (p .nameend))
 
@@ -79,6 +80,7 @@ pub record Peeked (sw : Switches) (s : List ℕ) (from : ℕ) (k : TokenKind) (s
 
 -- ---- one mark
 
+-- the token is this mark
 unfoldable pub markIs : TokenKind → ℕ → Bool
 markIs (K.Mark b) c = eqb b c
 markIs K.Word c = false
@@ -100,13 +102,16 @@ pub record Wants (sw : Switches) (limits : Limits) (want : ℕ) (c : Config) : T
   pub others : (t : Token) → ((b : ℕ) → t .form ≡ L.mark b → b ≡ want → ⊥) → step sw limits c t ≡ refuse 7
   pub ends : (place : ℕ) → atEnd place (c .mode) ≡ refused 7 place
 
+-- it is another one, a fault or the end: every state in which that mark alone is allowed comes to this refusal
 pub record NotMarked (sw : Switches) (s : List ℕ) (from want number place : ℕ) : Type 0 where
   pub ran : (limits : Limits) (c : Config) → Wants sw limits want c → runFrom sw limits s from c ≡ refused number place
 
+-- `Marked` or `NotMarked`, by the code's answer
 abbrev pub OnlyIs : Switches → List ℕ → (from want : ℕ) → Only → Type 0
 OnlyIs sw s from want (O.At stop) = Marked sw s from want stop
 OnlyIs sw s from want (O.Not number place) = NotMarked sw s from want number place
 
+-- the same as a record
 pub record OnlyOne (sw : Switches) (s : List ℕ) (from want : ℕ) (r : Only) : Type 0 where
   pub is : OnlyIs sw s from want r
 
@@ -147,6 +152,7 @@ abbrev pub Chain : Switches → List ℕ → List ℕ → ℕ → ℕ → List (
 Chain sw s tab x m [] = x ≡ m
 Chain sw s tab x m (w ∷ ks) = Link sw s tab x m w × Chain sw s tab (getD tab (12 * x + 8) 0) m ks
 
+-- the nodes from x to m, side by side, have keys
 pub record Chained (sw : Switches) (s tab : List ℕ) (x m : ℕ) : Type 0 where
   pub keys : List (List ℕ)
   pub chain : Chain sw s tab x m keys
@@ -162,6 +168,7 @@ pub record FoundKey (sw : Switches) (s tab : List ℕ) (x m a e : ℕ) (r : Bool
 
 -- ---- the items of a container
 
+-- where a container with so many children stands, if a child or the end is due
 abbrev pub slotOf : (children : ℕ) → Slot
 slotOf z = cond (eqb z 0) first more
 
@@ -204,11 +211,13 @@ pub record Refuses (sw : Switches) (s : List ℕ) (kind : Kind) (tab : List ℕ)
   pub ran : (limits : Limits) (l : Label) (ts : Forest) (ks : List (List ℕ)) (stack : List Frame) → Known sw s kind tab x m ks
       → runFrom sw limits s i (innerAt kind l ts ks stack m z) ≡ refused number place
 
+-- `Valued`, `Ends` or `Refuses`, by the code's answer
 abbrev pub ItemIs : Switches → List ℕ → Kind → List ℕ → (i x m z : ℕ) → Item → Type 0
 ItemIs sw s kind tab i x m z (I.Value k start stop a b) = Valued sw s kind tab i x m z k start stop a b
 ItemIs sw s kind tab i x m z (I.Last j) = Ends sw s kind tab i x m z j
 ItemIs sw s kind tab i x m z (I.Wrong number place) = Refuses sw s kind tab i x m z number place
 
+-- the same as a record
 pub record ItemAt (sw : Switches) (s : List ℕ) (kind : Kind) (tab : List ℕ) (i x m z : ℕ) (r : Item) : Type 0 where
   pub is : ItemIs sw s kind tab i x m z r
 
@@ -226,31 +235,36 @@ AfterKeyIs sw s start stop (I.Last j) = ⊥
 AfterKeyIs sw s start stop (I.Wrong number place) =
     (limits : Limits) (stack : List Frame) (m : ℕ) → runFrom sw limits s stop (config stack (colon (record { start = start; stop = stop })) m) ≡ refused number place
 
+-- the same as a record
 pub record AfterKey (sw : Switches) (s : List ℕ) (start stop : ℕ) (r : Item) : Type 0 where
   pub is : AfterKeyIs sw s start stop r
 
--- what follows a child
+-- after a child, a comma
 pub record Follows (sw : Switches) (s : List ℕ) (kind : Kind) (i j : ℕ) : Type 0 where
   pub ahead : i < j
   pub within : j ≤ length s
   pub ran : (limits : Limits) (l : Label) (ts : Forest) (ks : List (List ℕ)) (stack : List Frame) (m : ℕ)
       → runFrom sw limits s i (config (frame kind l ts ks ∷ stack) (inside after) m) ≡ runFrom sw limits s j (config (frame kind l ts ks ∷ stack) (inside more) m)
 
+-- after a child, the end of the container
 pub record Closes (sw : Switches) (s : List ℕ) (kind : Kind) (i j : ℕ) : Type 0 where
   pub ahead : i < j
   pub within : j ≤ length s
   pub ran : (limits : Limits) (l : Label) (ts : Forest) (ks : List (List ℕ)) (stack : List Frame) (m : ℕ)
       → runFrom sw limits s i (config (frame kind l ts ks ∷ stack) (inside after) m) ≡ runFrom sw limits s j (ended stack m (l .name) (branch (headBy l j) kind ts))
 
+-- after a child, a refusal
 pub record FollowsNot (sw : Switches) (s : List ℕ) (kind : Kind) (i number place : ℕ) : Type 0 where
   pub ran : (limits : Limits) (l : Label) (ts : Forest) (ks : List (List ℕ)) (stack : List Frame) (m : ℕ)
       → runFrom sw limits s i (config (frame kind l ts ks ∷ stack) (inside after) m) ≡ refused number place
 
+-- `Follows`, `Closes` or `FollowsNot`, by the code's answer
 abbrev pub NextIs : Switches → List ℕ → Kind → (i : ℕ) → After → Type 0
 NextIs sw s kind i (X.More j) = Follows sw s kind i j
 NextIs sw s kind i (X.Over j) = Closes sw s kind i j
 NextIs sw s kind i (X.Off number place) = FollowsNot sw s kind i number place
 
+-- the same as a record
 pub record NextAt (sw : Switches) (s : List ℕ) (kind : Kind) (i : ℕ) (r : After) : Type 0 where
   pub is : NextIs sw s kind i r
 
@@ -264,11 +278,12 @@ pub record Fit (s tab : List ℕ) (limits : Limits) (fresh : Bool) (n : ℕ) : T
   pub room : 12 * limits .nodes ≤ length tab
   pub small : limits .nodes ≤ 4096
 
--- a token's place, or a key's span, or none
+-- a token's place
 pub record Placed (s : List ℕ) (start stop : ℕ) : Type 0 where
   pub ordered : start < stop
   pub inside : stop ≤ length s
 
+-- a key's span, or 0, 0
 pub record KeySpan (key keyend : ℕ) : Type 0 where
   pub sane : keyend ≡ 0 → key ≡ 0
   pub starts : key ≤ 65536
@@ -291,9 +306,11 @@ pub record Took (sw : Switches) (limits : Limits) (s : List ℕ) (ω : List Fram
 pub record Stops (ω : List Frame → Outcome) (d number place : ℕ) : Type 0 where
   pub ran : (stack : List Frame) → length stack ≡ d → ω stack ≡ refused number place
 
+-- `Took` or `Stops`, by the code's answer
 abbrev pub RanIs : Switches → Limits → List ℕ → (List Frame → Outcome) → Label → (name : Option Span) → (o d parent n : ℕ) (tin tout : List ℕ) → Answer → Type 0
 RanIs sw limits s ω l name o d parent n tin tout (A.Done j m) = Took sw limits s ω l name o d parent n tin tout j m
 RanIs sw limits s ω l name o d parent n tin tout (A.Refused number place) = Stops ω d number place
 
+-- the same as a record
 pub record Ran (sw : Switches) (limits : Limits) (s : List ℕ) (ω : List Frame → Outcome) (l : Label) (name : Option Span) (o d parent n : ℕ) (tin tout : List ℕ) (r : Answer) : Type 0 where
   pub is : RanIs sw limits s ω l name o d parent n tin tout r

@@ -24,12 +24,15 @@ pub record TreeRead (limits : Limits) (o : Outcome) (tin tout : List ℕ) (start
   pub below : nodes ≤ limits .nodes
   pub wrote : tout ≡ sets tin 0 (rows noParent 0 tree)
 
+-- the tree or the refusal, by the code's answer
 abbrev pub TreeIs : Limits → Outcome → (tin tout : List ℕ) → Whole → Type 0
 TreeIs limits o tin tout (W.Done start stop nodes) = TreeRead limits o tin tout start stop nodes
 TreeIs limits o tin tout (W.Refused number place) = o ≡ refused number place
 
+-- the outcome of a text's tokens
 pub record WholeAt (sw : Switches) (limits : Limits) (any : Bool) (s tin tout : List ℕ) (r : Whole) : Type 0 where
   pub is : TreeIs limits (run sw limits (tokens sw s) (before any)) tin tout r
 
+-- the outcome of a text, its length and UTF-8 judged first
 pub record JudgedAt (sw : Switches) (limits : Limits) (any : Bool) (s tin tout : List ℕ) (r : Whole) : Type 0 where
   pub is : TreeIs limits (outcome sw any limits s) tin tout r
