@@ -73,18 +73,20 @@ module _ (sw : Switches) (room : Room) (first : List ℕ) where
         table = tableOf (room .words) (reading sw (room .words) (bookText cs));
       }
 
-  -- "Else it is added as the last in force. An undo is refused with 17 if none is in force. Else the last is dropped. A refused call changes nothing."
+  -- "Else it is added as the last in force."; "An undo is refused with 17 if none is in force. Else the last is dropped."; "A refused call
+  -- changes nothing."
   unfoldable pub bookAfter : List Correction → Call → List Correction
   bookAfter cs (correction c) = cond (eqb (bookRefusal cs c) 0) (c ∷ cs) cs
   bookAfter [] undoing = []
   bookAfter (c ∷ cs) undoing = cs
 
+  -- the refusal of a call, or 0: "An undo is refused with 17 if none is in force"
   unfoldable pub bookNumber : List Correction → Call → ℕ
   bookNumber cs (correction c) = bookRefusal cs c
   bookNumber [] undoing = 17
   bookNumber (c ∷ cs) undoing = 0
 
-  -- "In force are the accepted ones not undone; an undo takes back the latest of them": the corrections in force after a list of calls
+  -- demand 3: "In force are the accepted ones not undone; an undo takes back the latest of them"; those after a list of calls
   unfoldable pub inForce : List Correction → List Call → List Correction
   inForce cs [] = cs
   inForce cs (k ∷ ks) = inForce (bookAfter cs k) ks
@@ -96,15 +98,17 @@ module _ (sw : Switches) (room : Room) (first : List ℕ) where
 
 -- ---- the calls themselves, one after the other on the same buffers
 
--- "Each call gets the text, journal and table buffers as the last one left them, and the lengths last answered". Of the table a call
--- takes the count of its words alone, and every table that is left has as many (`table-law`).
+-- demand 3: "Each call gets the text, journal and table buffers as the last one left them, and the lengths last answered". Of the table a
+-- call takes the count of its words alone, and every table that is left has as many (`table-law`).
 unfoldable pub handedOn : Result → Lent
 handedOn r = lentOf (r .lent .text) (r .answer .used) (r .lent .journal) (r .answer .kept)
 
+-- what is seen of a call: the text and the journal are those in use by the lengths it answered
 unfoldable pub seenOf : Result → Seen
 seenOf r = record { answer = r .answer; text = textOf (handedOn r); journal = journalOf (handedOn r); table = r .table }
 
 module _ (sw : Switches) (words : ℕ) where
+  -- one call on the lent buffers, with a table of so many words
   unfoldable pub called : Lent → Call → Result
   called b (correction c) = correct sw words b (c .node) (c .replacement)
   called b undoing = undo sw words b
@@ -119,10 +123,11 @@ module _ (sw : Switches) (words : ℕ) where
   after b [] = b
   after b (k ∷ ks) = after (handedOn (called b k)) ks
 
+-- "the lengths of the lent buffers" of a call
 unfoldable pub roomOf : (words : ℕ) → Lent → Room
 roomOf words b = record { text = length (b .text); journal = length (b .journal); words = words }
 
--- "Start with a text that reads and an empty journal": the text's length in use lies within its buffer, or there would be no text
+-- demand 3: "Start with a text that reads and an empty journal"; its length in use lies within its buffer, or there would be no text
 pub record Fresh (sw : Switches) (words : ℕ) (b : Lent) : Type 0 where
   pub within : b .used ≤ length (b .text)
   pub empty : b .kept ≡ 0

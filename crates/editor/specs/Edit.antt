@@ -24,13 +24,15 @@ pub record Lent : Type 0 where
   pub journal : List ℕ
   pub kept : ℕ
 
+-- what is lent, from its parts
 abbrev pub lentOf : (text : List ℕ) (used : ℕ) (journal : List ℕ) (kept : ℕ) → Lent
 lentOf text used journal kept = record { text = text; used = used; journal = journal; kept = kept }
 
--- the text in use, the journal in use
+-- the text in use
 unfoldable pub textOf : Lent → List ℕ
 textOf b = take (b .used) (b .text)
 
+-- the journal in use
 unfoldable pub journalOf : Lent → List ℕ
 journalOf b = take (b .kept) (b .journal)
 
@@ -52,6 +54,7 @@ pub record Result : Type 0 where
 unfoldable pub verdictOf : (number place : ℕ) → Verdict
 verdictOf number place = cond (eqb number 0) A.Done (A.Refused number place)
 
+-- the code's answer with the node count and both lengths in use
 unfoldable pub changeOf : Answer → Change
 changeOf a = record { verdict = verdictOf (a .number) (a .place); nodes = a .nodes; used = a .used; kept = a .kept }
 
@@ -81,13 +84,15 @@ lengthRefused words b =
 unfoldable pub splice : (start stop : ℕ) (replacement text : List ℕ) → List ℕ
 splice start stop replacement text = take start text ++ (replacement ++ drop stop text)
 
--- a 32-bit number, low byte first, and back
+-- the bytes of a 32-bit number, "low byte first"
 unfoldable pub le32 : ℕ → List ℕ
 le32 n = (n % 256) ∷ (n / 256 % 256) ∷ (n / 65536 % 256) ∷ (n / 16777216 % 256) ∷ []
 
+-- the 32-bit number that the first four bytes are, "low byte first"
 unfoldable pub fromLe32 : List ℕ → ℕ
 fromLe32 s = getD s 0 0 + getD s 1 0 * 256 + getD s 2 0 * 65536 + getD s 3 0 * 16777216
 
+-- the bytes of a trailer: "three 32-bit numbers"
 abbrev pub trailerSize : ℕ
 trailerSize = 12
 
@@ -95,7 +100,7 @@ trailerSize = 12
 unfoldable pub trailer : (start new old : ℕ) → List ℕ
 trailer start new old = le32 start ++ (le32 new ++ le32 (old + trailerSize))
 
--- the old bytes from `start` to before `stop`, then their trailer
+-- "A correction's entry is the bytes it replaces, then the trailer above": the bytes from `start` to before `stop`
 unfoldable pub entry : (start stop : ℕ) (replacement text : List ℕ) → List ℕ
 entry start stop replacement text = part start stop text ++ trailer start (length replacement) (stop - start)
 
@@ -113,16 +118,19 @@ noRoom new room = ltb (min room maxText) (length new)
 
 -- ---- the last entry of a journal
 
--- the numbers of its trailer, from 0: start; replacement length; the whole entry's length
+-- "three 32-bit numbers", counted from 0, of the trailer at the journal's end
 unfoldable pub trailerNumber : (i : ℕ) → List ℕ → ℕ
 trailerNumber i journal = fromLe32 (drop (length journal - trailerSize + 4 * i) journal)
 
+-- the trailer's first number, "start"
 abbrev pub entryStart : List ℕ → ℕ
 entryStart journal = trailerNumber 0 journal
 
+-- its second, "replacement length"
 abbrev pub entryNew : List ℕ → ℕ
 entryNew journal = trailerNumber 1 journal
 
+-- its third, "old length plus 12, which is the whole entry"
 abbrev pub entrySize : List ℕ → ℕ
 entrySize journal = trailerNumber 2 journal
 
@@ -178,14 +186,15 @@ module _ (sw : Switches) (words : ℕ) where
 
   -- ---- corrections
 
-  -- "words 2 to 3" of a node in the reading of a text
+  -- word 2 of a node, its value's start, in the reading of a text
   unfoldable pub startOf : (node : ℕ) → List ℕ → ℕ
   startOf node text = wordOf (tableOf words (reading sw words text)) node 2
 
+  -- word 3 of it, the value's end
   unfoldable pub stopOf : (node : ℕ) → List ℕ → ℕ
   stopOf node text = wordOf (tableOf words (reading sw words text)) node 3
 
-  -- a text with a node's value replaced
+  -- a text with a node's value, "words 2 to 3", replaced
   unfoldable pub corrected : (node : ℕ) (replacement text : List ℕ) → List ℕ
   corrected node replacement text = splice (startOf node text) (stopOf node text) replacement text
 
