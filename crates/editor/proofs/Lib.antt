@@ -3,6 +3,10 @@ pub mod SpliceLaws
 pub mod EntryLaws
 pub mod BufferLaws
 pub mod JournalLaws
+pub mod NumberLaws
+pub mod ReadLaws
+pub mod CallLaws
+pub mod CorrectLaws
 pub mod BookLaws
 pub mod UndoLaws
 pub mod Demand3

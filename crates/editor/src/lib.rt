@@ -2,3 +2,4 @@
 pub mod buffers;
 pub mod edit;
 pub mod journal;
+pub mod trial;
