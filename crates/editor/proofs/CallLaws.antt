@@ -23,7 +23,7 @@ use Rattle.editor.specs.declared.trial.Tried.the-variants as Y
 use Rattle.editor.specs.Edit.{Lent, Result, Shows, textOf, changeOf, verdictOf, badLength, lengthRefused, overwritten, answered, decided, onceRead}
 use Rattle.editor.specs.Internal.{changed, refusedWith, TableIs, TriesIs, Tries, ReadNow, opened, Stopped, OpensIs, Opens}
 use Rattle.editor.proofs.SpliceLaws.{take-overwritten}
-use Rattle.editor.proofs.NumberLaws.{Numbered, number-law}
+use Rattle.reader.proofs.NumberBound.{NumberWithin, number-law}
 
 -- ---- lists
 
@@ -160,9 +160,9 @@ module _ (sw : Switches) (words : ℕ) where
     unfolding badLength
     good-length g h = ap₂ _||_ (le-ltb _ _ g) (le-ltb _ _ h)
 
-    opens-by : (o : Outcome) → reading sw words (textOf b) ≡ o → Numbered o → b .used ≤ length (b .text) → b .kept ≤ length (b .journal)
+    opens-by : (o : Outcome) → reading sw words (textOf b) ≡ o → NumberWithin o → b .used ≤ length (b .text) → b .kept ≤ length (b .journal)
         → OpensIs sw words b (tableOf words o) (answerOf o)
-    unfolding answerOf reads isTaken onceRead Numbered nodeCount verdictOf
+    unfolding answerOf reads isTaken onceRead NumberWithin nodeCount verdictOf
     opens-by (taken tree) e n g h =
         record {
           used-fits = g;
@@ -172,6 +172,7 @@ module _ (sw : Switches) (words : ℕ) where
         }
     opens-by (refused k p) e n g h =
         let t : TableIs sw words (textOf b) (tableOf words (refused k p)) 0 = record { nodes-are = ap nodeCount (sym e); table-is = ap (tableOf words) (sym e) } in
+        let m = n .0 in
         let v : A.Refused k p ≡ verdictOf k p = sym (cond-false (eqb k 0) A.Done (A.Refused k p) (ne-eqb k 0 (λ z. omega arith))) in
         record {
           shows = λ refusal new.

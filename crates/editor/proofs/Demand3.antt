@@ -3,19 +3,16 @@
 use mathlib.Core.Path.{_≡_, refl, sym, ap, ap₂, _∙_, subst}
 use Prim.Native.Nat.{ℕ, _≤_}
 use native.Mathlib.Omega.{arith}
-use mathlib.Core.Bool.{Bool, true, false, cond, false≢true}
+use mathlib.Core.Bool.{Bool, true, false}
 use mathlib.Core.List.{List, [], _∷_, _++_}
-use lib.Dec.{T, leb}
+use lib.Dec.{T}
 use lib.ListN.{length, take, replicate}
 use lib.Seq.{length-take-le}
-use borrow.Author.Tests.{leb-true}
 use Rattle.text.specs.declared.switches.Switches.{Switches}
-use Rattle.text.specs.Utf8.{utf8, isWhole, wholeFront}
-use Rattle.lexer.specs.Token.{tokens}
-use Rattle.reader.specs.Syntax.{refused, run, before}
-use Rattle.reader.specs.Reading.{reading, reads, isTaken, outcome, limitsOf, tableOf, maxText}
+use Rattle.reader.specs.Reading.{reading, reads, tableOf}
 use Rattle.editor.specs.Edit.{Lent, Result, textOf, journalOf, answered, decided, withUndo, undo}
 use Rattle.editor.specs.Book.{Correction, Call, correction, undoing, Room, Seen, bookText, bookJournal, told, bookAfter, bookNumber, inForce, book, handedOn, seenOf, called, calls, after, roomOf, Fresh, Demand3}
+use Rattle.editor.proofs.ReadLaws.{reads-short}
 use Rattle.editor.proofs.BookLaws.{AllAccepted, Shared, Same, seen-told, correct-same}
 use Rattle.editor.proofs.UndoLaws.{undo-decided, undo-none, undo-some, withUndo-shared}
 
@@ -65,17 +62,6 @@ module _ (sw : Switches) (room : Room) (first : List ℕ) where
   force-undone (c ∷ cs) = force-undone cs
 
 -- ---- the start
-
--- a text that reads is not too long
-reads-short : (sw : Switches) (words : ℕ) (t : List ℕ) → reads sw words t ≡ true → length t ≤ maxText
-unfolding reads reading outcome isTaken
-reads-short sw words t e = go (leb (length t) maxText) refl e
-  where
-    go : (z : Bool) → leb (length t) maxText ≡ z
-        → isTaken (cond z (cond (isWhole (utf8 t)) (run sw (limitsOf words) (tokens sw t) (before false)) (refused 2 (wholeFront (utf8 t)))) (refused 1 maxText)) ≡ true
-        → length t ≤ maxText
-    go true e k = leb-true (length t) maxText e
-    go false e k = absurd (false≢true k)
 
 T-true : (b : Bool) → T b → b ≡ true
 T-true true t = refl

@@ -3,7 +3,6 @@ pub mod SpliceLaws
 pub mod EntryLaws
 pub mod BufferLaws
 pub mod JournalLaws
-pub mod NumberLaws
 pub mod ReadLaws
 pub mod CallLaws
 pub mod CorrectLaws
