@@ -4,4 +4,5 @@ pub mod Table
 pub mod ClassLaws
 pub mod FeedLaws
 pub mod Utf8Laws
+pub mod Utf8Join
 pub mod SameLaws
