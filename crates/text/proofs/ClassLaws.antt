@@ -1,12 +1,14 @@
--- A class by its number, and the one byte of the class 5.
+-- A class by its number, the one byte of the class 5, and that bytes above 127 are of no class of their own.
 -- Assumes nothing.
 use mathlib.Core.Path.{_≡_, refl, sym, ap, _∙_, subst}
-use Prim.Native.Nat.{ℕ, _<_}
-use mathlib.Core.Bool.{Bool, true, cond}
-use lib.Dec.{T, eqb, eqb→eq}
+use Prim.Native.Nat.{ℕ, _<_, _≤_}
+use mathlib.Core.Bool.{Bool, true, false, not, cond, _&&_, _||_}
+use mathlib.Core.List.{List, [], _∷_}
+use lib.Dec.{T, leb, eqb, eqb→eq, leb→le}
 use lib.ListN.{length, replicate, length-replicate}
 use native.Mathlib.Omega.{arith}
-use Rattle.text.specs.Bytes.{Class, space, digit, capital, small, joiner, quote, tick, mark, slash, plus, other, classOf, classNumber, oneOf}
+use Rattle.text.specs.Bytes.{Class, space, digit, capital, small, joiner, quote, tick, mark, slash, plus, other, classOf, classNumber, oneOf, isSpace, isDigit, isCapital, isSmall, isJoiner, is, ascii, within}
+use Rattle.text.proofs.Choice.{cond-both, both-right, or-case}
 use Rattle.text.proofs.Table.{every, at}
 
 -- the class of a number
@@ -55,3 +57,54 @@ unfolding oneQuote
 quote-number b h e =
     let l = length-replicate {A = ℕ} 256 0 in
     eqb→eq b 34 (subst (λ (n : ℕ). T (cond (eqb n 5) (eqb b 34) true)) e (at oneQuote (replicate 256 0) all-quotes b (omega arith)))
+
+-- ---- tests that name bytes
+
+-- what holds of each byte of a list
+unfoldable pub AllOf : (ℕ → Type 0) → List ℕ → Type 0
+AllOf P [] = Unit {0}
+AllOf P (x ∷ xs) = P x × AllOf P xs
+
+-- holds of one of them
+pub one-of : (P : ℕ → Type 0) (xs : List ℕ) (b : ℕ) → T (oneOf xs b) → AllOf P xs → P b
+unfolding oneOf AllOf
+one-of P [] b t a = absurd t
+one-of P (x ∷ xs) b t a =
+    or-case (eqb b x) (oneOf xs b) (P b) t (λ h. subst P (sym (eqb→eq b x h)) (a .0)) (λ h. one-of P xs b h (a .1))
+
+-- what holds of the four spaces holds of a space
+pub space-of : (P : ℕ → Type 0) (b : ℕ) → T (isSpace b) → P 0x09 → P 0x0A → P 0x0D → P 0x20 → P b
+space-of P b t p q r s =
+    or-case (eqb b 0x09 || eqb b 0x0A || eqb b 0x0D) (eqb b 0x20) (P b) t
+    (λ u. or-case (eqb b 0x09 || eqb b 0x0A) (eqb b 0x0D) (P b) u
+    (λ v. or-case (eqb b 0x09) (eqb b 0x0A) (P b) v (λ h. subst P (sym (eqb→eq b 0x09 h)) p) (λ h. subst P (sym (eqb→eq b 0x0A h)) q))
+    (λ h. subst P (sym (eqb→eq b 0x0D h)) r))
+    (λ h. subst P (sym (eqb→eq b 0x20 h)) s)
+
+-- "Each of the 256 byte values has one class": above 127 it is the last
+module _ (b : ℕ) (high : 128 ≤ b) where
+  not-up-to : (lo hi : ℕ) → hi ≤ 127 → T (within lo hi b) → ⊥
+  not-up-to lo hi h t = let k = leb→le b hi (both-right (leb lo b) (leb b hi) t) in omega arith
+
+  not-byte : (c : ℕ) → c ≤ 127 → T (eqb b c) → ⊥
+  not-byte c h t = let e = eqb→eq b c t in omega arith
+
+  pub class-high : classOf b ≡ other
+  unfolding classOf AllOf
+  class-high =
+      let Is : Class → Type 0 = λ c. c ≡ other in
+      let Low : ℕ → Type 0 = λ x. x ≤ 127 in
+      let no : b ≤ 127 → ⊥ = λ l. omega arith in
+      cond-both Is (isSpace b) (λ t. absurd (no (space-of Low b t (omega arith) (omega arith) (omega arith) (omega arith))))
+      (λ _. cond-both Is (isDigit b) (λ t. absurd (not-up-to 48 57 (omega arith) t))
+      (λ _. cond-both Is (isCapital b) (λ t. absurd (not-up-to 65 90 (omega arith) t))
+      (λ _. cond-both Is (isSmall b) (λ t. absurd (not-up-to 97 122 (omega arith) t))
+      (λ _. cond-both Is (isJoiner b) (λ t. absurd (or-case (is "_" b) (is "-" b) ⊥ t (not-byte 95 (omega arith)) (not-byte 45 (omega arith))))
+      (λ _. cond-both Is (is "\"" b) (λ t. absurd (not-byte 34 (omega arith) t))
+      (λ _. cond-both Is (is "'" b) (λ t. absurd (not-byte 39 (omega arith) t))
+      (λ _. cond-both Is (oneOf (ascii "{}[]():,") b)
+      (λ t. absurd (no (one-of Low (ascii "{}[]():,") b t
+      (omega arith, (omega arith, (omega arith, (omega arith, (omega arith, (omega arith, (omega arith, (omega arith, tt)))))))))))
+      (λ _. cond-both Is (is "/" b) (λ t. absurd (not-byte 47 (omega arith) t))
+      (λ _. cond-both Is (is "+" b) (λ t. absurd (not-byte 43 (omega arith) t))
+      (λ _. refl))))))))))
