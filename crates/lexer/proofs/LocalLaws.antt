@@ -7,12 +7,13 @@ use native.Mathlib.Omega.{arith}
 use mathlib.Core.Bool.{Bool, true, false, cond, _&&_, _||_, true≢false, false≢true}
 use mathlib.Core.Option.{Option, none, some}
 use mathlib.Core.List.{List, [], _∷_, _++_}
-use lib.Dec.{T, eqb, eqb→eq}
+use lib.Dec.{eqb}
 use lib.ListN.{length, take, drop, length-drop}
 use lib.Seq.{take-at, take-append-le, drop-append-le}
+use borrow.Author.Tests.{eqb-true}
 use Rattle.text.specs.declared.switches.Switches.{Switches}
 use Rattle.text.specs.Bytes.{feed, front, begins, Class, classOf, isWordByte, isNumberByte, isLetterOrDigit, is, ascii}
-use Rattle.text.proofs.Choice.{cond-case, cond-true, cond-false}
+use Rattle.text.proofs.Choice.{cond-case, cond-true, cond-false, and-left, and-right, and-off}
 use Rattle.text.proofs.FeedLaws.{feed-stays, feed-append}
 use Rattle.literals.specs.declared.decoder.Body.{Body}
 use Rattle.literals.specs.declared.decoder.Body.the-variants as Y
@@ -171,10 +172,7 @@ number-local b x z z′ h s =
 -- ---- machines that close: a state that no byte changes, reached with the last byte
 
 module _ {A : Type 0} (step : A → ℕ → A) (count : A → ℕ) (shut : A → Bool)
-    (stays : (st : A) (b : ℕ) → shut st ≡ true → step st b ≡ st) (goes : (st : A) (b : ℕ) → shut st ≡ false → count (step st b) ≡ suc (count st)) where
-  pub shut-stays : (st : A) (l : List ℕ) → shut st ≡ true → feed step st l ≡ st
-  shut-stays st l e = feed-stays step st (λ b. stays st b e) l
-
+    (stays : (st : A) → shut st ≡ true → (b : ℕ) → step st b ≡ st) (goes : (st : A) (b : ℕ) → shut st ≡ false → count (step st b) ≡ suc (count st)) where
   closes-later : (st : A) (z : List ℕ) (t : Bool) → shut st ≡ t → t ≡ false → shut (feed step st z) ≡ true → count st < count (feed step st z)
   unfolding feed
   closes-later st [] t e q h = let w : true ≡ false = sym h ∙ e ∙ q in absurd (true≢false w)
@@ -184,7 +182,7 @@ module _ {A : Type 0} (step : A → ℕ → A) (count : A → ℕ) (shut : A →
       up = goes st b (e ∙ q)
 
       on : (u : Bool) → shut (step st b) ≡ u → (shut (step st b) ≡ false → count (step st b) < count (feed step (step st b) z)) → count st < count (feed step (step st b) z)
-      on true k f = let w = ap count (shut-stays (step st b) z k) in let v = up in omega arith
+      on true k f = let w = ap count (feed-stays step (step st b) (stays (step st b) k) z) in let v = up in omega arith
       on false k f = let w = f k in let v = up in omega arith
 
   pub closes-at : (st : A) (x z : List ℕ) → shut (feed step st (x ++ z)) ≡ true → count (feed step st (x ++ z)) ≡ count st + length x
@@ -193,7 +191,7 @@ module _ {A : Type 0} (step : A → ℕ → A) (count : A → ℕ) (shut : A →
   closes-at st [] z h e = on (shut st) refl
     where
       on : (u : Bool) → shut st ≡ u → st ≡ feed step st z
-      on true k = sym (shut-stays st z k)
+      on true k = sym (feed-stays step st (stays st k) z)
       on false k = let w = closes-later st z false k refl h in absurd (omega arith)
   closes-at st (b ∷ x) z h e = on (shut st) refl (λ q. closes-at (step st b) x z h q)
     where
@@ -201,8 +199,8 @@ module _ {A : Type 0} (step : A → ℕ → A) (count : A → ℕ) (shut : A →
           → (count (feed step (step st b) (x ++ z)) ≡ count (step st b) + length x → feed step (step st b) x ≡ feed step (step st b) (x ++ z))
           → feed step (step st b) x ≡ feed step (step st b) (x ++ z)
       on true k f =
-          let r = stays st b k in
-          ap (λ (s : A). feed step s x) r ∙ shut-stays st x k ∙ sym (shut-stays st (x ++ z) k) ∙ ap (λ (s : A). feed step s (x ++ z)) (sym r)
+          let r = stays st k b in
+          ap (λ (s : A). feed step s x) r ∙ feed-stays step st (stays st k) x ∙ sym (feed-stays step st (stays st k) (x ++ z)) ∙ ap (λ (s : A). feed step s (x ++ z)) (sym r)
       on false k f = let v = goes st b k in f (omega arith)
 
   -- what follows may be anything
@@ -210,7 +208,7 @@ module _ {A : Type 0} (step : A → ℕ → A) (count : A → ℕ) (shut : A →
       → feed step st (x ++ z′) ≡ feed step st (x ++ z)
   closes-local st x z z′ h e =
       let w = closes-at st x z h e in
-      feed-append step st x z′ ∙ ap (λ (s : A). feed step s z′) w ∙ shut-stays (feed step st (x ++ z)) z′ h
+      feed-append step st x z′ ∙ ap (λ (s : A). feed step s z′) w ∙ feed-stays step (feed step st (x ++ z)) (stays (feed step st (x ++ z)) h) z′
 
 -- ---- comments
 
@@ -244,7 +242,7 @@ block-local : (x z z′ : List ℕ) → EndsAt (suc (length x)) (blockItem (bloc
 unfolding blockRead block
 block-local x z z′ h =
     let w = block-over (length x) (block (x ++ z)) h in
-    closes-local blockStep blockRead isShut (λ st b e. shut-step st e b) block-goes (B.Inside 0) x z z′ (w .0) (omega arith)
+    closes-local blockStep blockRead isShut shut-step block-goes (B.Inside 0) x z z′ (w .0) (omega arith)
 
 and-true : (b : Bool) → b ≡ true → b && true ≡ true
 and-true true e = refl
@@ -335,7 +333,7 @@ module _ (sw : Switches) (isText : Bool) (body : Body) (head k : ℕ) where
       let c = closing (hasEscapes body) k (x ++ z) in
       let w = closed-over (length x) (x ++ z) c h in
       let e : closingBytes c ≡ closingBytes (C.Inside 0) + length x = omega arith in
-      let q = closes-local (closingStep (hasEscapes body) k) closingBytes isClosed (λ st b e. closed-step (hasEscapes body) k st e b) (close-goes (hasEscapes body) k) (C.Inside 0) x z z′ (w .0) e in
+      let q = closes-local (closingStep (hasEscapes body) k) closingBytes isClosed (closed-step (hasEscapes body) k) (close-goes (hasEscapes body) k) (C.Inside 0) x z z′ (w .0) e in
       let l : closingBytes c ≤ length x = omega arith in
       ap (λ (d : Closing). closedItem sw isText body head k (x ++ z′) d) q ∙ closed-same x z z′ c l
 
@@ -425,25 +423,10 @@ and-false : (b c c′ : Bool) → (c ≡ false → c′ ≡ false) → b && c �
 and-false true c c′ f e = f e
 and-false false c c′ f e = refl
 
-and-left : (b c : Bool) → b && c ≡ true → b ≡ true
-and-left true c e = refl
-and-left false c e = no-true e
-
-and-right : (b c : Bool) → b && c ≡ true → c ≡ true
-and-right true c e = e
-and-right false c e = no-true e
-
-and-off : (b c : Bool) → b ≡ false → b && c ≡ false
-and-off true c e = no-false e
-and-off false c e = refl
-
 or-false : (a c a′ c′ : Bool) → (a ≡ false → a′ ≡ false) → (c ≡ false → c′ ≡ false) → a || c ≡ false → a′ || c′ ≡ false
 or-false true c a′ c′ f g e = no-false e
 or-false false c true c′ f g e = no-false (f refl)
 or-false false c false c′ f g e = g e
-
-eqb-eq : (m n : ℕ) → eqb m n ≡ true → m ≡ n
-eqb-eq m n e = eqb→eq m n (subst (λ (t : Bool). T t) (sym e) tt)
 
 -- an opening: bytes of words, then a last byte that follows z′ only if it follows z
 Opening : List ℕ → (z z′ : List ℕ) → Type 0
@@ -466,7 +449,7 @@ begins-word e w [] p q = refl
 begins-word e w (c ∷ z) p q = on (eqb c e) refl
   where
     on : (t : Bool) → eqb c e ≡ t → eqb c e && begins w z ≡ false
-    on true k = no-false (sym p ∙ ap isWordByte (sym (eqb-eq c e k)) ∙ q)
+    on true k = no-false (sym p ∙ ap isWordByte (sym (eqb-true c e k)) ∙ q)
     on false k = and-off (eqb c e) (begins w z) k
 
 begins-tail : (e : ℕ) (w x z z′ : List ℕ) (a : ℕ) → (begins w (x ++ z) ≡ false → begins w (x ++ z′) ≡ false)
@@ -627,7 +610,7 @@ module _ (sw : Switches) (b : ℕ) where
   r-off : (s t : List ℕ) → test₃ s ≡ true → (test₁ t ≡ false) × (test₂ t ≡ false)
   unfolding test₁ test₂ test₃
   r-off s t h =
-      let e = eqb-eq b 114 (and-left (is "r" b) (opensRaw s) h) in
+      let e = eqb-true b 114 (and-left (is "r" b) (opensRaw s) h) in
       let f : is "b" b ≡ false = ap (is "b") e in
       (and-off (is "b" b) (begins (ascii "\"") t) f, and-off (is "b" b && sw .base64) (begins (ascii "64\"") t) (and-off (is "b" b) (sw .base64) f))
 
@@ -636,7 +619,7 @@ module _ (sw : Switches) (b : ℕ) where
   unfolding test₂ test₄ begins
   br-off a y t h =
       let k = and-right (is "b" b) (is "r" a && true) (and-left (is "b" b && (is "r" a && true)) (opensRaw y) h) in
-      let e = eqb-eq a 114 (and-left (is "r" a) true k) in
+      let e = eqb-true a 114 (and-left (is "r" a) true k) in
       off (is "b" b && sw .base64) (is "6" a) (begins (ascii "4\"") t) (ap (is "6") e)
     where
       off : (u v w : Bool) → v ≡ false → u && (v && w) ≡ false

@@ -15,7 +15,7 @@ use lib.Seq.{drop-cons}
 use Rattle.text.specs.declared.switches.Switches.{Switches}
 use Rattle.text.specs.Bytes.{front, begins, Class, classOf, isWordByte, isNumberByte, is, ascii, feed}
 use Rattle.text.specs.Utf8.{isUtf8, listed}
-use Rattle.text.proofs.Choice.{cond-both, both-left, both-right}
+use Rattle.text.proofs.Choice.{cond-both, is-true, both-left, both-right}
 use Rattle.literals.specs.declared.decoder.Body.{Body}
 use Rattle.literals.specs.declared.decoder.Body.the-variants as Y
 use Rattle.literals.specs.declared.decoder.Decoder.{Decoder}
@@ -94,10 +94,6 @@ Ranged (N.Integer z) = Unit {0}
 Ranged (N.Decimal minus m p) = DecimalFits m p
 Ranged N.Malformed = Unit {0}
 Ranged N.TooWide = Unit {0}
-
-is-true : (t : Bool) → T t → t ≡ true
-is-true true t = refl
-is-true false t = absurd t
 
 integer-ranged : (minus : Bool) (m : ℕ) → Ranged (asInteger minus m)
 unfolding Ranged asInteger
