@@ -6,5 +6,6 @@ pub mod PlaceLaws
 pub mod NextLaws
 pub mod LocalLaws
 pub mod FaultLaws
+pub mod FirstLaws
 pub mod AloneLaws
 pub mod PartLaws
