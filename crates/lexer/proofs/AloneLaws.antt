@@ -29,7 +29,8 @@ use Rattle.lexer.specs.declared.item.TokenKind.{TokenKind}
 use Rattle.lexer.specs.Closing.{closing, block}
 use Rattle.lexer.specs.Token.{Form, mark, word, text, bytes, integer, decimal, Item, gap, token, fault, blockItem, comment, contentItem, closedItem, hasEscapes, stringItem, hashCount, rawItem, opensRaw, wordItem, meantItem, numberItem, smallItem, itemOf, item, itemAt, keyContent, wholeItem, tokenContent}
 use Rattle.lexer.proofs.TokenLaws.{EndsBy, itemAt-ends}
-use Rattle.lexer.proofs.LocalLaws.{heads, EndsAt, ItemSeam, all-seam, item-local}
+use Rattle.lexer.proofs.LocalLaws.{heads, EndsAt, ItemSeam, all-seam}
+use Rattle.lexer.proofs.SeamLaws.{same-item}
 use Rattle.lexer.proofs.NextLaws.{Ahead}
 
 -- ---- a token before nothing
@@ -45,8 +46,7 @@ module _ (sw : Switches) where
       → item sw b x ≡ token form more
   unfolding EndsAt
   item-alone b x z form more l e =
-      ap (item sw b) (sym (append-nil x))
-      ∙ item-local sw b x z [] (subst (EndsAt (length x)) (sym e) l) (nothing-after x (item sw b (x ++ z)) z) ∙ e
+      ap (item sw b) (sym (append-nil x)) ∙ same-item sw b x z [] (token form more) l (nothing-after x (token form more) z) e
 
   -- the content of the token's bytes is that of its form
   pub content-alone : (b : ℕ) (x z : List ℕ) (form : Form) (more : ℕ) → more ≡ length x → item sw b (x ++ z) ≡ token form more

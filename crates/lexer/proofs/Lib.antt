@@ -7,5 +7,6 @@ pub mod NextLaws
 pub mod LocalLaws
 pub mod FaultLaws
 pub mod FirstLaws
+pub mod SeamLaws
 pub mod AloneLaws
 pub mod PartLaws
