@@ -8,5 +8,6 @@ pub mod LocalLaws
 pub mod FaultLaws
 pub mod FirstLaws
 pub mod SeamLaws
+pub mod WalkLaws
 pub mod AloneLaws
 pub mod PartLaws
