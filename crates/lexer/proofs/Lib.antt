@@ -9,5 +9,6 @@ pub mod FaultLaws
 pub mod FirstLaws
 pub mod SeamLaws
 pub mod WalkLaws
+pub mod ItemLaws
 pub mod AloneLaws
 pub mod PartLaws
