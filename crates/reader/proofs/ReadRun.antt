@@ -29,7 +29,7 @@ use Rattle.reader.specs.Syntax.{label, Frame, value, done, Config, confi
 use Rattle.reader.specs.Reading.{maxText, nodeLimit, limitsOf, limitsAlone, outcome, reading, tableOf, answerOf, spans, oneValue}
 use Rattle.reader.specs.Internal.Values.{spanAt, runFrom, openedHere, Peeked, Took, Stops}
 use Rattle.reader.specs.Internal.Whole.{TreeRead, TreeIs, WholeAt, JudgedAt}
-use Rattle.reader.proofs.SpanLaws.{length-rows}
+use Rattle.reader.proofs.TableLaws.{length-rows}
 use Rattle.reader.proofs.StepRun.{peek-refuse, end-run, fault-run, value-opens}
 
 module _ {sw : Switches} {limits : Limits} {any : Bool} {s tin tout : List ℕ} {r : Whole} where

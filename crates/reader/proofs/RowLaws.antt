@@ -19,7 +19,7 @@ use Rattle.reader.specs.Tree.{Span, Head, Scalar, text, bytes, integer, 
 use Rattle.reader.specs.Syntax.{Label, label, headBy, stopAt, withStop}
 use Rattle.reader.specs.Internal.Tokens.{leafOf}
 use Rattle.reader.specs.Internal.Values.{spanAt, labelOf, Sane, rowWords}
-use Rattle.reader.proofs.SpanLaws.{length-rows, length-rowsAll}
+use Rattle.reader.proofs.TableLaws.{length-rows, length-rowsAll}
 use Rattle.reader.proofs.SizeLaws.{rowsAll-snoc}
 use Rattle.reader.proofs.KeyWalk.{getD-in, RowSays}
 

@@ -18,7 +18,7 @@ use Rattle.reader.specs.Tree.{Span, Tree, leaf, branch, Forest, nil, con
 use Rattle.reader.specs.declared.tree.Limits.{Limits}
 use Rattle.reader.specs.Syntax.{Label, Frame, Slot, first, lone, after, more, Mode, value, named, inner, close, inside, colon, done, Config, Step, go, refuse, Begins, container, scalar, identifier, nothing, spanOf, isMark, closer, isObject, keyOf, begins, headBy, withStop, label, finished, ended, goTo, refuseIf, isComma, emptyByComma, holds, keyStep, closeOr, noNode, counted, valueStep, freshValue, childStep, slotStep, modeStep, step, Outcome, taken, refused, atEnd, afterStep, run, before}
 use Rattle.reader.specs.Reading.{outcome, reading, nodeLimit, limitsOf, nodeCount, tableOf, maxText}
-use Rattle.reader.proofs.SpanLaws.{length-rows}
+use Rattle.reader.proofs.TableLaws.{length-rows}
 
 pub sizes-snoc : (f : Forest) (t : Tree) → sizes (snoc f t) ≡ sizes f + size t
 unfolding size snoc

@@ -1,44 +1,38 @@
 -- In a taken text every value's span runs forwards and ends within the text: words 2 and 3 of each node.
 -- Assumes nothing.
-use mathlib.Core.Path.{_≡_, refl, ap, _∙_}
-use Prim.Native.Nat.{ℕ, zero, suc, _+_, _-_, _*_, _≤_, _<_, zero-le}
+use Prim.Native.Nat.{ℕ, _≤_, _<_, zero-le}
 use native.Mathlib.Nat.{le-refl, le-trans}
-use native.Mathlib.Decide.{decLt}
 use native.Mathlib.Omega.{arith}
 use mathlib.Core.Bool.{Bool, true, false, _&&_}
 use mathlib.Core.Option.{Option, none, some}
-use mathlib.Core.List.{List, [], _∷_, _++_}
+use mathlib.Core.List.{List, [], _∷_}
 use lib.Dec.{leb}
-use lib.ListN.{length, getD, replicate, length-append, List·getD-append}
-use lib.Seq.{getD-append-add}
+use lib.ListN.{length}
 use Rattle.text.specs.declared.switches.Switches.{Switches}
 use Rattle.text.specs.Utf8.{utf8, isWhole}
 use Rattle.lexer.specs.Token as L
 use Rattle.lexer.specs.Token.{Token, Tokens, tokens}
 use Rattle.text.proofs.Choice.{cond-both}
 use Rattle.lexer.proofs.TokenLaws.{Within, tokens-within}
-use Rattle.reader.specs.Tree
-use Rattle.reader.specs.Tree.{Span, Head, Scalar, Tree, leaf, branch, Forest, nil, cons, snoc, size, sizes, count, spanWords, headWords, kindNumber, scalarNumber, scalarWords, rows, rowsAll, padded, noParent}
+use Rattle.reader.specs.Tree.{Span, Tree, leaf, branch, Forest, nil, cons, snoc}
 use Rattle.reader.specs.declared.tree.Limits.{Limits}
 use Rattle.reader.specs.Syntax.{Label, Frame, Slot, first, lone, after, more, Mode, value, named, inner, close, inside, colon, done, Config, Step, go, refuse, Begins, container, scalar, identifier, nothing, spanOf, isMark, closer, isObject, keyOf, begins, headBy, stopAt, withStop, finished, ended, goTo, refuseIf, isComma, emptyByComma, keyStep, closeOr, counted, valueStep, freshValue, childStep, slotStep, modeStep, step, Outcome, taken, refused, atEnd, afterStep, run, before}
 use Rattle.reader.specs.Reading.{outcome, reading, limitsOf, nodeCount, tableOf, wordOf, maxText}
+use Rattle.reader.proofs.TableLaws.{AllSpans, AllSpansIn, snoc-spans, table-span}
 
 -- ---- spans that end by n
 
-abbrev pub Ends : (n : ℕ) → Head → Type 0
-Ends n h = (h .value .start ≤ h .value .stop) × (h .value .stop ≤ n)
+abbrev pub Ends : (n : ℕ) → Bool → (start stop : ℕ) → Type 0
+Ends n any start stop = (start ≤ stop) × (stop ≤ n)
 
-unfoldable mutual
-  pub AllEnd : (n : ℕ) → Tree → Type 0
-  AllEnd n (leaf h s) = Ends n h
-  AllEnd n (branch h k f) = Ends n h × AllEndIn n f
+abbrev pub AllEnd : (n : ℕ) → Tree → Type 0
+AllEnd n t = AllSpans (Ends n) true t
 
-  pub AllEndIn : (n : ℕ) → Forest → Type 0
-  AllEndIn n nil = Unit {0}
-  AllEndIn n (cons t f) = AllEnd n t × AllEndIn n f
+abbrev pub AllEndIn : (n : ℕ) → Forest → Type 0
+AllEndIn n f = AllSpansIn (Ends n) f
 
 mutual
-  unfolding AllEnd
+  unfolding AllSpans
 
   later : (n m : ℕ) (t : Tree) → n ≤ m → AllEnd n t → AllEnd m t
   later n m (leaf h s) l a = (a .0, le-trans (a .1) l)
@@ -47,11 +41,6 @@ mutual
   laterIn : (n m : ℕ) (f : Forest) → n ≤ m → AllEndIn n f → AllEndIn m f
   laterIn n m nil l a = tt
   laterIn n m (cons t f) l a = (later n m t l (a .0), laterIn n m f l (a .1))
-
-snoc-ends : (n : ℕ) (f : Forest) (t : Tree) → AllEndIn n f → AllEnd n t → AllEndIn n (snoc f t)
-unfolding AllEnd snoc
-snoc-ends n nil t a b = (b, tt)
-snoc-ends n (cons u f) t a b = (a .0, snoc-ends n f t (a .1) b)
 
 -- ---- the machine keeps it
 
@@ -88,7 +77,7 @@ refuse-or n false k s g = g
 finished-good : (n nodes : ℕ) (fs : List Frame) (t : Tree) → FramesEnd n fs → AllEnd n t → Good n (finished fs nodes t)
 unfolding finished Good FramesEnd ModeEnds
 finished-good n nodes [] t a b = (tt, b)
-finished-good n nodes (f ∷ fs) t a b = ((a .0, snoc-ends n (f .children) t (a .1) b, a .2), tt)
+finished-good n nodes (f ∷ fs) t a b = ((a .0, snoc-spans (Ends n) (f .children) t (a .1) b, a .2), tt)
 
 ended-good : (n nodes : ℕ) (fs : List Frame) (o : Option Span) (t : Tree) → FramesEnd n fs → AllEnd n t → Good n (ended fs nodes o t)
 unfolding ended Good ModeEnds
@@ -96,7 +85,7 @@ ended-good n nodes fs none t a b = finished-good n nodes fs t a b
 ended-good n nodes fs (some s) t a b = (a, b)
 
 with-stop : (n m : ℕ) (t : Tree) → n ≤ m → AllEnd n t → AllEnd m (withStop m t)
-unfolding withStop stopAt AllEnd
+unfolding withStop stopAt AllSpans
 with-stop n m (leaf h s) l a = (le-trans (a .0) (le-trans (a .1) l), le-refl m)
 with-stop n m (branch h k f) l a = ((le-trans (a .0 .0) (le-trans (a .0 .1) l), le-refl m), laterIn n m f l (a .1))
 
@@ -106,7 +95,7 @@ module _ (limits : Limits) (t : Token) (at : ℕ) (after-at : at ≤ t .start) (
 
   value-good : (c : Config) (fresh any : Bool) (label : Label) (b : Begins) → FramesEnd at (c .stack) → label .start ≤ t .start
       → GoodStep (t .stop) (valueStep limits c fresh any label t b)
-  unfolding valueStep GoodStep Good FramesEnd ModeEnds AllEnd headBy
+  unfolding valueStep GoodStep Good FramesEnd ModeEnds AllSpans headBy
   value-good c fresh any label (container k) a l =
       refuse-or (t .stop) _ 9 _ (refuse-or (t .stop) _ 10 _ ((omega arith, tt, frames-later at (t .stop) (c .stack) to a), tt))
   value-good c fresh any label (scalar s) a l =
@@ -133,7 +122,7 @@ module _ (limits : Limits) (t : Token) (at : ℕ) (after-at : at ≤ t .start) (
 
   close-good : (c : Config) (f : Frame) (fs : List Frame) (other : Step) → FramesEnd at (f ∷ fs) → GoodStep (t .stop) other
       → GoodStep (t .stop) (closeOr c f fs t other)
-  unfolding closeOr GoodStep FramesEnd AllEnd headBy
+  unfolding closeOr GoodStep FramesEnd AllSpans headBy
   close-good c f fs other b g =
       cond-both (GoodStep (t .stop)) (isMark (closer (f .kind)) (t .form))
       (λ _. ended-good (t .stop) (c .nodes) fs (f .label .name) (branch (headBy (f .label) (t .stop)) (f .kind) (f .children))
@@ -212,110 +201,13 @@ outcome-ends sw any limits text =
 
 -- ---- the table's words
 
-length-head : (kind parent : ℕ) (h : Head) (next : ℕ) → length (headWords kind parent h next) ≡ 9
-unfolding headWords spanWords
-length-head kind parent h next = both (h .key) (h .name)
-  where
-    both : (a b : Option Span) → suc (suc (suc (suc (length (spanWords a ++ (spanWords b ++ (next ∷ []))))))) ≡ 9
-    both none none = refl
-    both none (some s) = refl
-    both (some r) none = refl
-    both (some r) (some s) = refl
-
-length-scalar : (s : Scalar) → length (scalarWords s) ≡ 3
-unfolding scalarWords
-length-scalar (Tree.text token content) = refl
-length-scalar (Tree.bytes token content) = refl
-length-scalar (Tree.integer z) = refl
-length-scalar (Tree.decimal minus m p) = refl
-length-scalar Tree.falseValue = refl
-length-scalar Tree.trueValue = refl
-length-scalar Tree.nullValue = refl
-
-mutual
-  unfolding rows size
-
-  pub length-rows : (parent n : ℕ) (t : Tree) → length (rows parent n t) ≡ 12 * size t
-  length-rows parent n (leaf h s) =
-      let a = length-append (headWords (scalarNumber s) parent h (suc n)) (scalarWords s) in
-      let b = length-head (scalarNumber s) parent h (suc n) in
-      let c = length-scalar s in
-      omega arith
-  length-rows parent n (branch h k f) =
-      let a = length-append (headWords (kindNumber k) parent h (suc n + sizes f)) (count f ∷ 0 ∷ 0 ∷ rowsAll n (suc n) f) in
-      let b = length-head (kindNumber k) parent h (suc n + sizes f) in
-      let c = length-rowsAll n (suc n) f in
-      omega arith
-
-  pub length-rowsAll : (parent n : ℕ) (f : Forest) → length (rowsAll parent n f) ≡ 12 * sizes f
-  length-rowsAll parent n nil = refl
-  length-rowsAll parent n (cons t f) =
-      let a = length-append (rows parent n t) (rowsAll parent (n + size t) f) in
-      let b = length-rows parent n t in
-      let c = length-rowsAll parent (n + size t) f in
-      omega arith
-
 -- words 2 and 3 of node i
 abbrev pub WordsEnd : (n : ℕ) → List ℕ → (i : ℕ) → Type 0
 WordsEnd n l i = (wordOf l i 2 ≤ wordOf l i 3) × (wordOf l i 3 ≤ n)
 
-words-by : (n i j : ℕ) (l r : List ℕ) → ((k : ℕ) → k < 4 → wordOf l i k ≡ wordOf r j k) → WordsEnd n r j → WordsEnd n l i
-words-by n i j l r e w =
-    let a = e 2 (omega arith) in
-    let b = e 3 (omega arith) in
-    let c = w .0 in
-    let d = w .1 in
-    (omega arith, omega arith)
-
--- past the twelve words of a branch
-word-past : (h : List ℕ) (a b c : ℕ) (l : List ℕ) (j k : ℕ) → length h ≡ 9 → wordOf (h ++ (a ∷ b ∷ c ∷ l)) (suc j) k ≡ wordOf l j k
-word-past h a b c l j k e =
-    let q : 12 * suc j + k ≡ length h + suc (suc (suc (12 * j + k))) = omega arith in
-    ap (λ (m : ℕ). getD (h ++ (a ∷ b ∷ c ∷ l)) m 0) q ∙ getD-append-add h (a ∷ b ∷ c ∷ l) (suc (suc (suc (12 * j + k)))) 0
-
-word-left : (l r : List ℕ) (n i k : ℕ) → length l ≡ 12 * n → i < n → k < 4 → wordOf (l ++ r) i k ≡ wordOf l i k
-word-left l r n i k e h q = List·getD-append l r 0 (12 * i + k) (omega arith)
-
-word-right : (l r : List ℕ) (n j k : ℕ) → length l ≡ 12 * n → wordOf (l ++ r) (n + j) k ≡ wordOf r j k
-word-right l r n j k e =
-    let q : 12 * (n + j) + k ≡ length l + (12 * j + k) = omega arith in
-    ap (λ (m : ℕ). getD (l ++ r) m 0) q ∙ getD-append-add l r (12 * j + k) 0
-
-mutual
-  unfolding AllEnd rows size headWords
-
-  rows-end : (n parent m : ℕ) (t : Tree) → AllEnd n t → (i : ℕ) → i < size t → WordsEnd n (rows parent m t) i
-  rows-end n parent m (leaf h s) a zero l = a
-  rows-end n parent m (leaf h s) a (suc i) l = absurd (omega arith)
-  rows-end n parent m (branch h k f) a zero l = a .0
-  rows-end n parent m (branch h k f) a (suc i) l =
-      words-by n (suc i) i (rows parent m (branch h k f)) (rowsAll m (suc m) f)
-      (λ j q. word-past (headWords (kindNumber k) parent h (suc m + sizes f)) (count f) 0 0 (rowsAll m (suc m) f) i j (length-head (kindNumber k) parent h (suc m + sizes f)))
-      (rowsAll-end n m (suc m) f (a .1) i (omega arith))
-
-  rowsAll-end : (n parent m : ℕ) (f : Forest) → AllEndIn n f → (i : ℕ) → i < sizes f → WordsEnd n (rowsAll parent m f) i
-  rowsAll-end n parent m nil a i l = absurd (omega arith)
-  rowsAll-end n parent m (cons t f) a i l =
-      elim (decLt i (size t)) [
-        | yes h ↦
-            words-by n i i (rows parent m t ++ rowsAll parent (m + size t) f) (rows parent m t)
-            (λ k q. word-left (rows parent m t) (rowsAll parent (m + size t) f) (size t) i k (length-rows parent m t) h q)
-            (rows-end n parent m t (a .0) i h)
-        | no h ↦
-            let g : size t ≤ i = omega arith in
-            let e : i ≡ size t + (i - size t) = omega arith in
-            words-by n i (i - size t) (rows parent m t ++ rowsAll parent (m + size t) f) (rowsAll parent (m + size t) f)
-            (λ k q. ap (λ (x : ℕ). wordOf (rows parent m t ++ rowsAll parent (m + size t) f) x k) e
-            ∙ word-right (rows parent m t) (rowsAll parent (m + size t) f) (size t) (i - size t) k (length-rows parent m t))
-            (rowsAll-end n parent (m + size t) f (a .1) (i - size t) (omega arith))
-      ]
-
 table-ends : (n words : ℕ) (o : Outcome) (i : ℕ) → OutcomeEnds n o → i < nodeCount o → WordsEnd n (tableOf words o) i
-unfolding OutcomeEnds tableOf nodeCount padded
-table-ends n words (taken t) i a h =
-    words-by n i i (rows noParent 0 t ++ replicate (words - length (rows noParent 0 t)) 0) (rows noParent 0 t)
-    (λ k q. word-left (rows noParent 0 t) (replicate (words - length (rows noParent 0 t)) 0) (size t) i k (length-rows noParent 0 t) h q)
-    (rows-end n noParent 0 t a i h)
+unfolding OutcomeEnds nodeCount
+table-ends n words (taken t) i a h = table-span (Ends n) true words i t a h
 table-ends n words (refused number place) i a h = absurd (omega arith)
 
 -- each node's span runs forwards and ends within the text
