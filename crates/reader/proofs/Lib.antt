@@ -4,6 +4,7 @@ pub mod TableLaws
 pub mod SpanLaws
 pub mod SizeLaws
 pub mod Viable
+pub mod PathLaws
 pub mod SignedLaws
 pub mod KeepLaws
 pub mod BeginLaws
