@@ -5,6 +5,7 @@ pub mod SpanLaws
 pub mod SizeLaws
 pub mod Viable
 pub mod PathLaws
+pub mod FrameLaws
 pub mod SignedLaws
 pub mod KeepLaws
 pub mod BeginLaws
