@@ -6,6 +6,7 @@ pub mod SizeLaws
 pub mod Viable
 pub mod PathLaws
 pub mod FrameLaws
+pub mod MapLaws
 pub mod SignedLaws
 pub mod KeepLaws
 pub mod BeginLaws
