@@ -18,6 +18,7 @@ use Rattle.reader.specs.Tree.{Span, Tree, leaf, branch, Forest, nil, con
 use Rattle.reader.specs.declared.tree.Limits.{Limits}
 use Rattle.reader.specs.Syntax.{Label, Frame, Slot, first, lone, after, more, Mode, value, named, inner, close, inside, colon, done, Config, Step, go, refuse, Begins, container, scalar, identifier, nothing, spanOf, isMark, closer, isObject, keyOf, begins, headBy, withStop, label, finished, ended, goTo, refuseIf, isComma, emptyByComma, holds, keyStep, closeOr, noNode, counted, valueStep, freshValue, childStep, slotStep, modeStep, step, Outcome, taken, refused, atEnd, afterStep, run, before}
 use Rattle.reader.specs.Reading.{outcome, reading, nodeLimit, limitsOf, nodeCount, tableOf, maxText}
+use Rattle.reader.proofs.StopLaws.{stops-size}
 use Rattle.reader.proofs.TableLaws.{length-rows}
 
 pub sizes-snoc : (f : Forest) (t : Tree) → sizes (snoc f t) ≡ sizes f + size t
@@ -41,11 +42,6 @@ rowsAll-snoc parent n (cons u f) t =
     ap (λ (l : List ℕ). rows parent n u ++ l) (rowsAll-snoc parent (n + size u) f t)
     ∙ sym (append-assoc (rows parent n u) (rowsAll parent (n + size u) f) (rows parent (n + size u + sizes f) t))
     ∙ ap (λ (m : ℕ). rows parent n u ++ rowsAll parent (n + size u) f ++ rows parent m t) e
-
-size-stop : (stop : ℕ) (t : Tree) → size (withStop stop t) ≡ size t
-unfolding size withStop
-size-stop stop (leaf h s) = refl
-size-stop stop (branch h k f) = refl
 
 -- the nodes of the open containers with their finished children, and of what the mode holds
 framesSize : List Frame → ℕ
@@ -158,7 +154,7 @@ module _ (limits : Limits) where
       cond-both CountedStep (isMark ")" (t .form))
       (λ _.
       let p = ap modeSize e in
-      let q = size-stop (t .stop) tree in
+      let q = stops-size (t .stop) tree in
       finished-counted (c .nodes) (c .stack) (withStop (t .stop) tree) (omega arith) (g .1))
       (λ _. tt)
   mode-counted sw c t (inside slot) e g = slot-counted sw c t slot (c .stack) refl (ap modeSize e) g

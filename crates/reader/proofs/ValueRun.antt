@@ -29,6 +29,7 @@ use Rattle.reader.specs.Tree.{Span, Scalar, Tree, leaf, branch, Forest, 
 use Rattle.reader.specs.Syntax.{Label, label, Frame, frame, Mode, value, named, inner, close, Config, config, Step, go, refuse, refuseIf, Begins, container, scalar, identifier, nothing, begins, spanOf, isMark, headBy, stopAt, withStop, ended, finished, noNode, counted, valueStep, modeStep, step, goTo, Outcome, refused, atEnd, afterStep}
 use Rattle.reader.specs.Internal.Tokens.{formAt, tokenAt, TokenAt, LeafIs, BeginIs, Begun}
 use Rattle.reader.specs.Internal.Values.{spanAt, labelOf, Sane, rowWords, runFrom, nodesAt, opened, openedHere, Peeked, Marked, Wants, NotMarked, KeySpan, Took, Stops, Ran, RanIs}
+use Rattle.reader.proofs.StopLaws.{stops-size, stops-key, stops-start, stops-stop}
 use Rattle.reader.proofs.StepRun.{peek-run, mark-go, end-run, fault-run, not-mark, mode-free}
 use Rattle.reader.proofs.ItemRun.{span-some}
 use Rattle.reader.proofs.RowLaws.{leaf-row, stop-row}
@@ -164,26 +165,6 @@ module _ (sw : Switches) (limits : Limits) (s : List ℕ) (from : ℕ) (any : Bo
   inner-nothing k start stop d q e = record { ran = λ stack h. inner-run k start stop q nothing e stack }
 
 -- ---- identifiers
-
-stops-size : (x : ℕ) (t : Tree) → size (withStop x t) ≡ size t
-unfolding size withStop
-stops-size x (leaf h v) = refl
-stops-size x (branch h k f) = refl
-
-stops-key : (x : ℕ) (t : Tree) → headOf (withStop x t) .key ≡ headOf t .key
-unfolding headOf withStop stopAt
-stops-key x (leaf h v) = refl
-stops-key x (branch h k f) = refl
-
-stops-start : (x : ℕ) (t : Tree) → headOf (withStop x t) .value .start ≡ headOf t .value .start
-unfolding headOf withStop stopAt
-stops-start x (leaf h v) = refl
-stops-start x (branch h k f) = refl
-
-stops-stop : (x : ℕ) (t : Tree) → headOf (withStop x t) .value .stop ≡ x
-unfolding headOf withStop stopAt
-stops-stop x (leaf h v) = refl
-stops-stop x (branch h k f) = refl
 
 module _ (sw : Switches) (limits : Limits) (s : List ℕ) (start stop : ℕ) (any : Bool) (p : Spans) (n d : ℕ) where
   -- the label with the identifier's name
