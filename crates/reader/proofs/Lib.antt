@@ -8,6 +8,7 @@ pub mod Viable
 pub mod PathLaws
 pub mod FrameLaws
 pub mod MapLaws
+pub mod AwaitLaws
 pub mod SignedLaws
 pub mod KeepLaws
 pub mod BeginLaws
