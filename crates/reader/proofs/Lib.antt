@@ -9,6 +9,7 @@ pub mod PathLaws
 pub mod FrameLaws
 pub mod MapLaws
 pub mod AwaitLaws
+pub mod EdgeLaws
 pub mod SignedLaws
 pub mod KeepLaws
 pub mod BeginLaws
