@@ -16,22 +16,7 @@ use Rattle.reader.specs.Tree.{Span, Scalar, Tree}
 use Rattle.reader.specs.declared.tree.Kind.{Kind}
 use Rattle.reader.specs.declared.tree.Limits.{Limits}
 use Rattle.reader.specs.Syntax.{Label, Frame, Slot, first, lone, after, more, Mode, value, named, inner, close, inside, colon, done, Config, config, label, Step, go, refuse, Begins, container, scalar, identifier, nothing, spanOf, isMark, closer, isObject, isComma, emptyByComma, keyOf, markBegins, wordBegins, begins, withStop, finished, ended, refuseIf, holds, keyStep, closeOr, counted, valueStep, freshValue, childStep, slotStep, modeStep, step, Outcome, taken, refused, atEnd, afterStep, run}
-
--- ---- the refusals by a limit
-
-pub data Limit : ℕ → Type 0 where
-  deep : Limit 9
-  many : Limit 10
-
--- taken, or stopped by a limit
-unfoldable pub Fair : Outcome → Type 0
-Fair (taken t) = Unit {0}
-Fair (refused k place) = Limit k
-
--- if the first is taken the second is, or is stopped by a limit
-unfoldable pub FairIf : Outcome → Outcome → Type 0
-FairIf (taken t) o = Fair o
-FairIf (refused k place) o = Unit {0}
+use Rattle.reader.proofs.LimitLaws.{Limit, deep, many, Fair, FairIf, Steps, by-limit, by-test}
 
 -- ---- tokens of one form begin alike
 
@@ -87,24 +72,8 @@ pub data Like : Config → Config → Type 0 where
   on-colon : {k k′ : Span} {n n′ : ℕ} {fs gs : List Frame} → FramesLike fs gs → Like (config fs (colon k) n) (config gs (colon k′) n′)
   on-done : {t t′ : Tree} {n n′ : ℕ} {fs gs : List Frame} → FramesLike fs gs → Like (config fs (done t) n) (config gs (done t′) n′)
 
--- where the first goes on the second does, or a limit stops it
-unfoldable StepLike : Step → Step → Type 0
-StepLike (go c) (go d) = Like c d
-StepLike (go c) (refuse k) = Limit k
-StepLike (refuse k) s = Unit {0}
-
-refuse-limit : (b b′ : Bool) (k : ℕ) (s s′ : Step) → Limit k → StepLike s s′ → StepLike (refuseIf b k s) (refuseIf b′ k s′)
-unfolding refuseIf StepLike
-refuse-limit true b′ k s s′ l h = tt
-refuse-limit false true k (go c) s′ l h = l
-refuse-limit false true k (refuse j) s′ l h = tt
-refuse-limit false false k s s′ l h = h
-
-refuse-both : (b b′ : Bool) (k : ℕ) (s s′ : Step) → b ≡ b′ → StepLike s s′ → StepLike (refuseIf b k s) (refuseIf b′ k s′)
-unfolding refuseIf StepLike
-refuse-both true b′ k s s′ e h = tt
-refuse-both false true k s s′ e h = absurd (subst (λ (x : Bool). T (not x)) e tt)
-refuse-both false false k s s′ e h = h
+abbrev StepLike : Step → Step → Type 0
+StepLike = Steps Like
 
 finished-like : {fs gs : List Frame} (n n′ : ℕ) (t t′ : Tree) → FramesLike fs gs → Like (finished fs n t) (finished gs n′ t′)
 unfolding finished
@@ -128,15 +97,15 @@ whole-like fs n n′ t t′ = finished-like n n′ t t′ (frames-refl fs)
 module _ (sw : Switches) (limits limits′ : Limits) where
   value-like : (c d : Config) (fresh any : Bool) (l l′ : Label) (t t′ : Token) {b b′ : Begins} → FramesLike (c .stack) (d .stack)
       → hasName (l .name) ≡ hasName (l′ .name) → BeginsLike b b′ → StepLike (valueStep limits c fresh any l t b) (valueStep limits′ d fresh any l′ t′ b′)
-  unfolding valueStep StepLike hasName
+  unfolding valueStep Steps hasName
   value-like c d fresh any l l′ t t′ r e cont =
-      refuse-limit _ _ 9 _ _ deep (refuse-limit _ _ 10 _ _ many (on-inside (onto (record { kind = refl; keys = refl; name = e }) r)))
+      by-limit Like _ _ 9 _ _ deep (by-limit Like _ _ 10 _ _ many (on-inside (onto (record { kind = refl; keys = refl; name = e }) r)))
   value-like c d fresh any l l′ t t′ r e scal =
-      refuse-both _ _ 7 _ _ refl (refuse-limit _ _ 10 _ _ many
+      by-test Like _ _ 7 _ _ refl (by-limit Like _ _ 10 _ _ many
       (ended-like (counted limits fresh c) (counted limits′ fresh d) (l .name) (l′ .name) _ _ e r))
   value-like c d fresh any l l′ t t′ r e iden =
       let q : hasName (some (spanOf t)) ≡ hasName (some (spanOf t′)) = refl in
-      refuse-both _ _ 7 _ _ refl (refuse-limit _ _ 10 _ _ many
+      by-test Like _ _ 7 _ _ refl (by-limit Like _ _ 10 _ _ many
       (on-named {l = label (l .start) (l .key) (some (spanOf t))} {l′ = label (l′ .start) (l′ .key) (some (spanOf t′))} r q))
   value-like c d fresh any l l′ t t′ r e noth = tt
 
@@ -151,18 +120,18 @@ module _ (sw : Switches) (limits limits′ : Limits) where
 
     key-like : (f g : Frame) (fs gs : List Frame) (n n′ : ℕ) (u v : Span) (k k′ : Option (List ℕ)) → k ≡ k′ → FrameLike f g → FramesLike fs gs
         → StepLike (keyStep f fs n u k) (keyStep g gs n′ v k′)
-    unfolding StepLike keyStep
+    unfolding Steps keyStep
     key-like f g fs gs n n′ u v k k′ e h r = subst (λ (x : Option (List ℕ)). StepLike (keyStep f fs n u k) (keyStep g gs n′ v x)) e (on k)
       where
         on : (j : Option (List ℕ)) → StepLike (keyStep f fs n u j) (keyStep g gs n′ v j)
         on none = tt
         on (some j) =
-            refuse-both (holds (f .keys) j) (holds (g .keys) j) 8 _ _ (ap (λ (x : List (List ℕ)). holds x j) (h .keys))
+            by-test Like (holds (f .keys) j) (holds (g .keys) j) 8 _ _ (ap (λ (x : List (List ℕ)). holds x j) (h .keys))
             (on-colon (onto (record { kind = h .kind; keys = ap (λ (x : List (List ℕ)). x ++ (j ∷ [])) (h .keys); name = h .name }) r))
 
     close-like : (c d : Config) (f g : Frame) (fs gs : List Frame) (s s′ : Step) → FrameLike f g → FramesLike fs gs → StepLike s s′
         → StepLike (closeOr c f fs t s) (closeOr d g gs t′ s′)
-    unfolding closeOr StepLike
+    unfolding closeOr Steps
     close-like c d f g fs gs s s′ h r k =
         cond-two StepLike (isMark (closer (f .kind)) (t .form)) (isMark (closer (g .kind)) (t′ .form)) (λ i. isMark (closer (h .kind i)) (same i))
         (ended-like (c .nodes) (d .nodes) (f .label .name) (g .label .name) _ _ (h .name) r) k
@@ -177,7 +146,7 @@ module _ (sw : Switches) (limits limits′ : Limits) where
 
     slot-like : (c d : Config) (slot : Slot) {fs gs : List Frame} → FramesLike fs gs → FramesLike (c .stack) (d .stack)
         → StepLike (slotStep sw limits c t slot fs) (slotStep sw limits′ d t′ slot gs)
-    unfolding slotStep StepLike
+    unfolding slotStep Steps
     slot-like c d slot base q = tt
     slot-like c d first (onto {f = f} {g = g} {fs = fs} {gs = gs} h r) q =
         close-like c d f g fs gs _ _ h r
@@ -189,7 +158,7 @@ module _ (sw : Switches) (limits limits′ : Limits) where
     slot-like c d more (onto {f = f} {g = g} {fs = fs} {gs = gs} h r) q = close-like c d f g fs gs _ _ h r (child-like c d f g fs gs h r q)
 
     step-like : {c d : Config} → Like c d → StepLike (step sw limits c t) (step sw limits′ d t′)
-    unfolding step modeStep StepLike
+    unfolding step modeStep Steps
     step-like (on-value {any = any} {key = key} {key′ = key′} {n = n} {n′ = n′} {fs = fs} {gs = gs} r) =
         fresh-like (config fs (value any key) n) (config gs (value any key′) n′) any key key′ r
     step-like (on-named r e) = cond-two StepLike (isMark "(" (t .form)) (isMark "(" (t′ .form)) (λ i. isMark "(" (same i)) (on-inner r e) tt
@@ -216,7 +185,7 @@ module _ (sw : Switches) (limits limits′ : Limits) where
 
   after-like : (p p′ : ℕ) (s s′ : Step) (k k′ : Config → Outcome) → StepLike s s′
       → ((c d : Config) → Like c d → FairIf (k c) (k′ d)) → FairIf (afterStep p s k) (afterStep p′ s′ k′)
-  unfolding afterStep StepLike FairIf Fair
+  unfolding afterStep Steps FairIf Fair
   after-like p p′ (go c) (go d) k k′ h f = f c d h
   after-like p p′ (go c) (refuse j) k k′ h f = limit (k c)
     where
