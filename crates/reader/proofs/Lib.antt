@@ -11,6 +11,7 @@ pub mod FrameLaws
 pub mod MapLaws
 pub mod AwaitLaws
 pub mod EdgeLaws
+pub mod MoveLaws
 pub mod SignedLaws
 pub mod KeepLaws
 pub mod BeginLaws
