@@ -12,6 +12,7 @@ pub mod MapLaws
 pub mod AwaitLaws
 pub mod EdgeLaws
 pub mod MoveLaws
+pub mod KnownLaws
 pub mod SignedLaws
 pub mod KeepLaws
 pub mod BeginLaws
