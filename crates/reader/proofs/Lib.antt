@@ -13,6 +13,7 @@ pub mod AwaitLaws
 pub mod EdgeLaws
 pub mod MoveLaws
 pub mod KnownLaws
+pub mod ReplaceLaws
 pub mod SignedLaws
 pub mod KeepLaws
 pub mod BeginLaws
