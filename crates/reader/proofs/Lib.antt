@@ -14,6 +14,7 @@ pub mod EdgeLaws
 pub mod MoveLaws
 pub mod KnownLaws
 pub mod ReplaceLaws
+pub mod RootLaws
 pub mod SignedLaws
 pub mod KeepLaws
 pub mod BeginLaws
