@@ -15,6 +15,7 @@ pub mod MoveLaws
 pub mod KnownLaws
 pub mod ReplaceLaws
 pub mod RootLaws
+pub mod InsertLaws
 pub mod SignedLaws
 pub mod KeepLaws
 pub mod BeginLaws
