@@ -6,15 +6,12 @@ use mathlib.Core.List.{List}
 use lib.ListN.{length}
 use Rattle.text.specs.declared.switches.Switches.{Switches}
 use Rattle.lexer.specs.Token as L
-use Rattle.lexer.specs.Token.{Token, Form, tokens, tokensFrom, itemAt}
+use Rattle.lexer.specs.Token.{Form, tokens, tokensFrom, itemAt}
 use Rattle.lexer.proofs.TokenLaws.{from-gap, from-token, from-fault, from-end}
+use Rattle.lexer.proofs.SeamLaws.{cutToken}
 use Rattle.reader.specs.Internal.Values.{runFrom}
 use Rattle.reader.specs.declared.tree.Limits.{Limits}
 use Rattle.reader.specs.Syntax.{Config, go, refuse, step, Outcome, refused, atEnd, afterStep, run}
-
--- the token of a form at a place
-abbrev pub tokenAt : Form → (at more : ℕ) → Token
-tokenAt form at more = record { form = form; start = at; stop = at + suc more }
 
 module _ (sw : Switches) where
   pub run-start : (limits : Limits) (s : List ℕ) (c : Config) → run sw limits (tokens sw s) c ≡ runFrom sw limits s 0 c
@@ -34,14 +31,14 @@ module _ (sw : Switches) where
     unfolding runFrom run
     run-fault number e = ap (λ (ts : L.Tokens). run sw limits ts c) (from-fault sw s at h number e)
 
-    pub run-token : (form : Form) (more : ℕ) (d : Config) → itemAt sw s at ≡ L.token form more → step sw limits c (tokenAt form at more) ≡ go d
+    pub run-token : (form : Form) (more : ℕ) (d : Config) → itemAt sw s at ≡ L.token form more → step sw limits c (cutToken form at more) ≡ go d
         → runFrom sw limits s at c ≡ runFrom sw limits s (at + suc more) d
     unfolding runFrom run afterStep
     run-token form more d e k =
         ap (λ (ts : L.Tokens). run sw limits ts c) (from-token sw s at h form more e)
         ∙ ap (λ (x : _). afterStep at x (λ g. run sw limits (tokensFrom sw s (at + suc more)) g)) k
 
-    pub run-refuse : (form : Form) (more number : ℕ) → itemAt sw s at ≡ L.token form more → step sw limits c (tokenAt form at more) ≡ refuse number
+    pub run-refuse : (form : Form) (more number : ℕ) → itemAt sw s at ≡ L.token form more → step sw limits c (cutToken form at more) ≡ refuse number
         → runFrom sw limits s at c ≡ refused number at
     unfolding runFrom run afterStep
     run-refuse form more number e k =
