@@ -7,7 +7,7 @@ use Prim.Native.Char.{Char}
 use native.Mathlib.Omega.{arith}
 use mathlib.Core.Bool.{Bool, true, false, _&&_, true≢false}
 use mathlib.Core.Option.{Option, none, some}
-use mathlib.Core.List.{List, [], _∷_, _++_}
+use mathlib.Core.List.{List, [], _∷_}
 use lib.Dec.{T}
 use lib.ListN.{length, length-append}
 use Rattle.text.specs.declared.switches.Switches.{Switches}
@@ -19,11 +19,11 @@ use Rattle.lexer.specs.Token as L
 use Rattle.lexer.specs.Token.{Token, Tokens, Form, Item, item, cut}
 use Rattle.lexer.proofs.LocalLaws.{EndsAt, heads, goesOn, ItemSeam, FormSeam, form-ends}
 use Rattle.lexer.proofs.FirstLaws.{SolidForm, Solid, solid, item-ascii}
-use Rattle.lexer.proofs.SeamLaws.{cutToken, cut-took, cut-fault, Split, split-token}
-use Rattle.lexer.proofs.WalkLaws.{Walk, here, past, took, Follows}
+use Rattle.lexer.proofs.SeamLaws.{cutToken, cut-took, cut-fault, split-token}
+use Rattle.lexer.proofs.WalkLaws.{here, past, took, Follows}
 use Rattle.reader.specs.Tree.{Span, Tree, leaf, branch, headOf}
 use Rattle.reader.specs.declared.tree.Limits.{Limits}
-use Rattle.reader.specs.Syntax.{Label, Frame, Slot, first, lone, after, more, Mode, value, named, inner, close, inside, colon, done, Config, label, Step, go, refuse, Begins, container, scalar, identifier, nothing, spanOf, isMark, closer, isObject, isComma, emptyByComma, keyOf, markBegins, opensWithCapital, wordBegins, begins, headBy, withStop, finished, ended, refuseIf, keyStep, closeOr, counted, valueStep, freshValue, childStep, slotStep, modeStep, step, Outcome, taken, refused, afterStep, run, before}
+use Rattle.reader.specs.Syntax.{Label, Frame, Slot, first, lone, after, more, Mode, value, named, inner, close, inside, colon, done, Config, label, Step, go, refuse, Begins, container, scalar, identifier, nothing, spanOf, isMark, closer, isObject, isComma, emptyByComma, keyOf, markBegins, opensWithCapital, wordBegins, begins, headBy, withStop, finished, ended, refuseIf, keyStep, closeOr, counted, valueStep, freshValue, childStep, slotStep, modeStep, step, taken, refused, afterStep, run, before}
 use Rattle.reader.proofs.StopLaws.{stops-stop}
 use Rattle.reader.proofs.StepRun.{after-step}
 use Rattle.reader.proofs.PathLaws.{Moves, Path}

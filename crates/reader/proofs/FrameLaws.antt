@@ -15,8 +15,8 @@ use Rattle.lexer.proofs.SeamLaws.{mapToken, mapTokens}
 use Rattle.reader.specs.Tree.{Span, Scalar, Tree}
 use Rattle.reader.specs.declared.tree.Kind.{Kind}
 use Rattle.reader.specs.declared.tree.Limits.{Limits}
-use Rattle.reader.specs.Syntax.{Label, Frame, Slot, first, lone, after, more, Mode, value, named, inner, close, inside, colon, done, Config, config, label, Step, go, refuse, Begins, container, scalar, identifier, nothing, spanOf, isMark, closer, isObject, isComma, emptyByComma, keyOf, markBegins, wordBegins, begins, withStop, finished, ended, refuseIf, holds, keyStep, closeOr, counted, valueStep, freshValue, childStep, slotStep, modeStep, step, Outcome, taken, refused, atEnd, afterStep, run}
-use Rattle.reader.proofs.LimitLaws.{Limit, deep, many, Fair, FairIf, Steps, by-limit, by-test}
+use Rattle.reader.specs.Syntax.{Label, Frame, Slot, first, lone, after, more, value, named, inner, close, inside, colon, done, Config, config, label, Step, go, refuse, Begins, container, scalar, identifier, nothing, spanOf, isMark, closer, isObject, isComma, emptyByComma, keyOf, markBegins, wordBegins, begins, withStop, finished, ended, holds, keyStep, closeOr, counted, valueStep, freshValue, childStep, slotStep, modeStep, step, Outcome, taken, refused, atEnd, afterStep, run}
+use Rattle.reader.proofs.LimitLaws.{deep, many, Fair, FairIf, Steps, by-limit, by-test}
 
 -- ---- tokens of one form begin alike
 

@@ -1,12 +1,11 @@
 -- Every node of a taken text is known by its place: where it starts the machine awaited a value, and where it ends that value was whole.
 -- Assumes nothing.
 use mathlib.Core.Path.{_≡_, refl, sym, ap, _∙_, subst}
-use Prim.Native.Nat.{ℕ, suc, _+_, _≤_}
+use Prim.Native.Nat.{ℕ, _+_, _≤_}
 use native.Mathlib.Omega.{arith}
-use mathlib.Core.Bool.{Bool, true, false, not, _&&_}
+use mathlib.Core.Bool.{Bool, true, false, _&&_}
 use mathlib.Core.Option.{Option, none, some}
 use mathlib.Core.List.{List, [], _∷_, _++_, append-nil, append-assoc}
-use lib.Dec.{T}
 use lib.ListN.{length, length-append}
 use Rattle.text.specs.declared.switches.Switches.{Switches}
 use Rattle.text.proofs.Choice.{cond-both, is-false}
@@ -17,12 +16,12 @@ use Rattle.lexer.specs.Token.{Token, Form, item, cut}
 use Rattle.lexer.proofs.LocalLaws.{EndsAt, heads}
 use Rattle.lexer.proofs.FirstLaws.{item-ascii, newline-gap}
 use Rattle.lexer.proofs.SeamLaws.{cutToken}
-use Rattle.lexer.proofs.WalkLaws.{Walk, here, past, took}
+use Rattle.lexer.proofs.WalkLaws.{here, past, took}
 use Rattle.reader.specs.Tree.{Span, Tree, leaf, branch, Forest, headOf}
 use Rattle.reader.specs.declared.tree.Limits.{Limits}
 use Rattle.reader.specs.Syntax.{Label, Frame, Slot, first, lone, after, more, Mode, value, named, inner, close, inside, colon, done, Config, config, label, Step, go, refuse, Begins, container, scalar, identifier, nothing, spanOf, isMark, closer, isObject, isComma, emptyByComma, keyOf, begins, headBy, stopAt, withStop, finished, ended, refuseIf, keyStep, closeOr, counted, valueStep, freshValue, childStep, slotStep, modeStep, step, taken, run, before}
 use Rattle.reader.proofs.TableLaws.{AllSpans, AllSpansIn, snoc-spans}
-use Rattle.reader.proofs.PathLaws.{Path, path-run, WholePath, whole-path}
+use Rattle.reader.proofs.PathLaws.{Path, path-run, whole-path}
 use Rattle.reader.proofs.AwaitLaws.{Awaits, anyOf, value-awaits, first-awaits, more-awaits}
 use Rattle.reader.proofs.EdgeLaws.{Ready}
 

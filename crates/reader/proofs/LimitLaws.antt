@@ -1,6 +1,6 @@
 -- The refusals by a limit, 9 and 10, and two runs of which the second goes where the first goes, unless a limit stops it.
 -- Assumes nothing.
-use mathlib.Core.Path.{_≡_, subst}
+use mathlib.Core.Path.{_≡_}
 use Prim.Native.Nat.{ℕ}
 use mathlib.Core.Bool.{Bool, true, false, false≢true}
 use Rattle.reader.specs.Syntax.{Config, Step, go, refuse, refuseIf, Outcome, taken, refused}

@@ -1,11 +1,11 @@
 -- Places are only carried along: the run of tokens whose places are mapped is the run of the tokens with its outcome mapped.
 -- φ maps where tokens start, ψ where they stop. (For values that are read elsewhere, and for comments put between tokens.)
 -- Assumes nothing.
-use mathlib.Core.Path.{_≡_, refl, sym, ap, _∙_, subst}
-use Prim.Native.Nat.{ℕ, suc, _+_}
-use mathlib.Core.Bool.{Bool, true, false, not, cond, _&&_}
+use mathlib.Core.Path.{_≡_, refl, ap, _∙_}
+use Prim.Native.Nat.{ℕ, suc}
+use mathlib.Core.Bool.{Bool, true, false, cond, _&&_}
 use mathlib.Core.Option.{Option, none, some}
-use mathlib.Core.List.{List, [], _∷_, _++_}
+use mathlib.Core.List.{List, [], _∷_}
 use lib.Dec.{leb}
 use lib.ListN.{length}
 use Rattle.text.specs.declared.switches.Switches.{Switches}
@@ -17,7 +17,7 @@ use Rattle.lexer.proofs.SeamLaws.{mapToken, mapTokens}
 use Rattle.reader.specs.Tree.{Span, Head, Scalar, Tree, leaf, branch, Forest, nil, cons, snoc}
 use Rattle.reader.specs.Tree as R
 use Rattle.reader.specs.declared.tree.Limits.{Limits}
-use Rattle.reader.specs.Syntax.{Label, Frame, Slot, first, lone, after, more, Mode, value, named, inner, close, inside, colon, done, Config, config, frame, label, Step, go, refuse, Begins, container, scalar, identifier, nothing, spanOf, isMark, closer, isObject, isComma, emptyByComma, keyOf, markBegins, opensWithCapital, wordBegins, begins, headBy, stopAt, withStop, finished, ended, goTo, refuseIf, holds, keyStep, closeOr, noNode, counted, valueStep, freshValue, childStep, slotStep, modeStep, step, Outcome, taken, refused, atEnd, afterStep, run}
+use Rattle.reader.specs.Syntax.{Label, Frame, Slot, first, lone, after, more, Mode, value, named, inner, close, inside, colon, done, Config, config, frame, label, Step, go, refuse, Begins, container, scalar, identifier, nothing, spanOf, isMark, closer, isObject, isComma, emptyByComma, keyOf, markBegins, opensWithCapital, wordBegins, begins, headBy, stopAt, withStop, finished, ended, refuseIf, keyStep, closeOr, noNode, counted, valueStep, freshValue, childStep, slotStep, modeStep, step, Outcome, taken, refused, atEnd, afterStep, run}
 
 module _ (φ ψ : ℕ → ℕ) where
   unfoldable pub mapSpan : Span → Span

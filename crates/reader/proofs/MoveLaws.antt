@@ -11,15 +11,15 @@ use lib.ListN.{length}
 use Rattle.text.specs.declared.switches.Switches.{Switches}
 use Rattle.text.proofs.Choice.{cond-pair}
 use Rattle.lexer.specs.Token as L
-use Rattle.lexer.specs.Token.{Token, Tokens, Form, item, cut}
+use Rattle.lexer.specs.Token.{Token, Form, item, cut}
 use Rattle.lexer.proofs.LocalLaws.{heads, goesOn}
 use Rattle.lexer.proofs.SeamLaws.{cutToken, mapToken, onBy}
-use Rattle.lexer.proofs.WalkLaws.{Walk, here, past, took, walk-before, walk-map}
+use Rattle.lexer.proofs.WalkLaws.{here, past, took, walk-before, walk-map}
 use Rattle.reader.specs.Tree.{Span, Head, Scalar, Tree, leaf, branch, Forest, nil, snoc, headOf}
 use Rattle.reader.specs.declared.tree.Kind.{Kind}
 use Rattle.reader.specs.declared.tree.Limits.{Limits}
-use Rattle.reader.specs.Syntax.{Label, Frame, Slot, first, lone, after, more, Mode, value, named, inner, close, inside, colon, done, Config, config, frame, label, Step, go, refuse, Begins, container, scalar, identifier, nothing, spanOf, isMark, closer, isObject, isComma, emptyByComma, keyOf, begins, headBy, stopAt, withStop, finished, ended, refuseIf, holds, keyStep, closeOr, counted, valueStep, freshValue, childStep, slotStep, modeStep, step, Outcome, taken, refused, run, before}
-use Rattle.reader.proofs.PathLaws.{Moves, Path, path-run, path-refused, WholePath, whole-path}
+use Rattle.reader.specs.Syntax.{Label, Frame, Slot, first, lone, after, more, Mode, value, named, inner, close, inside, colon, done, Config, config, frame, label, Step, go, refuse, Begins, container, scalar, identifier, nothing, spanOf, isMark, closer, isObject, isComma, emptyByComma, keyOf, begins, headBy, stopAt, withStop, finished, ended, holds, keyStep, closeOr, valueStep, freshValue, childStep, slotStep, modeStep, step, taken, refused, run, before}
+use Rattle.reader.proofs.PathLaws.{Moves, Path, path-run, path-refused, whole-path}
 use Rattle.reader.proofs.LimitLaws.{Limit, deep, many, Steps, by-limit, by-test}
 use Rattle.reader.proofs.MapLaws.{mapTree, mapMode, mapSome, mapStack, mapConfig, mapStep, step-map}
 use Rattle.reader.proofs.AwaitLaws.{Starts, Awaits}

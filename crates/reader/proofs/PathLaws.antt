@@ -10,11 +10,11 @@ use lib.ListN.{length, length-append}
 use Rattle.text.specs.declared.switches.Switches.{Switches}
 use Rattle.lexer.specs.Token as L
 use Rattle.lexer.specs.Token.{Token, Tokens, Form, Item, item, cut}
-use Rattle.lexer.proofs.SeamLaws.{cutToken, cut-took, cut-fault, Split, split-gap, split-token}
+use Rattle.lexer.proofs.SeamLaws.{cutToken, cut-took, cut-fault, split-gap, split-token}
 use Rattle.lexer.proofs.WalkLaws.{Walk, here, past, took, walk-cut}
 use Rattle.reader.specs.Tree.{Tree}
 use Rattle.reader.specs.declared.tree.Limits.{Limits}
-use Rattle.reader.specs.Syntax.{Mode, value, named, inner, close, inside, colon, done, Config, Step, go, refuse, step, Outcome, taken, refused, atEnd, afterStep, run}
+use Rattle.reader.specs.Syntax.{Mode, value, named, inner, close, inside, colon, done, Config, Step, go, refuse, step, taken, refused, atEnd, afterStep, run}
 
 abbrev pub Moves : Switches → Limits → Config → Token → Config → Type 0
 Moves sw limits c t d = step sw limits c t ≡ go d

@@ -3,8 +3,8 @@
 use mathlib.Core.Path.{_≡_, refl, sym, ap, _∙_, subst}
 use Prim.Native.Nat.{ℕ, zero, suc, _+_, _≤_, _<_}
 use native.Mathlib.Omega.{arith}
-use mathlib.Core.Bool.{Bool, true, false, cond, _&&_, false≢true}
-use mathlib.Core.List.{List, [], _∷_, _++_}
+use mathlib.Core.Bool.{Bool, true, false, cond, false≢true}
+use mathlib.Core.List.{List, _++_}
 use lib.Dec.{T, leb, ltb, eqb}
 use lib.ListN.{length, take, drop}
 use lib.Seq.{take-at, drop-at}
@@ -19,10 +19,10 @@ use Rattle.lexer.proofs.SeamLaws.{mapTokens, onBy, cut-alone}
 use Rattle.lexer.proofs.WalkLaws.{walk-before}
 use Rattle.reader.specs.Tree.{Tree, size, headOf}
 use Rattle.reader.specs.declared.tree.Limits.{Limits}
-use Rattle.reader.specs.Syntax.{Frame, Config, finished, Outcome, taken, refused, run, before}
+use Rattle.reader.specs.Syntax.{Frame, finished, Outcome, taken, refused, run, before}
 use Rattle.reader.specs.Reading.{outcome, reading, limitsOf, limitsAlone, isTaken, reads, nodeCount, tableOf, wordOf, spans, oneValue, maxText}
 use Rattle.reader.proofs.TableLaws.{anyAt, table-span}
-use Rattle.reader.proofs.LimitLaws.{Limit, Fair, FairIf}
+use Rattle.reader.proofs.LimitLaws.{Fair, FairIf}
 use Rattle.reader.proofs.PathLaws.{Moves, path-run}
 use Rattle.reader.proofs.FrameLaws.{whole-like, run-like}
 use Rattle.reader.proofs.AwaitLaws.{Awaits}

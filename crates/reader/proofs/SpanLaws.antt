@@ -14,7 +14,7 @@ use Rattle.lexer.specs.Token as L
 use Rattle.lexer.specs.Token.{Token, Tokens, tokens}
 use Rattle.text.proofs.Choice.{cond-both}
 use Rattle.lexer.proofs.TokenLaws.{Within, tokens-within}
-use Rattle.reader.specs.Tree.{Span, Tree, leaf, branch, Forest, nil, cons, snoc}
+use Rattle.reader.specs.Tree.{Span, Tree, leaf, branch, Forest, nil, cons}
 use Rattle.reader.specs.declared.tree.Limits.{Limits}
 use Rattle.reader.specs.Syntax.{Label, Frame, Slot, first, lone, after, more, Mode, value, named, inner, close, inside, colon, done, Config, Step, go, refuse, Begins, container, scalar, identifier, nothing, spanOf, isMark, closer, isObject, keyOf, begins, headBy, stopAt, withStop, finished, ended, goTo, refuseIf, isComma, emptyByComma, keyStep, closeOr, counted, valueStep, freshValue, childStep, slotStep, modeStep, step, Outcome, taken, refused, atEnd, afterStep, run, before}
 use Rattle.reader.specs.Reading.{outcome, reading, limitsOf, nodeCount, tableOf, wordOf, maxText}
