@@ -9,5 +9,6 @@ pub mod CorrectLaws
 pub mod BookLaws
 pub mod UndoLaws
 pub mod Demand3
+pub mod Cause
 pub mod Computing
 pub mod Cases
