@@ -4,7 +4,8 @@ ghost use lib.ListN.{length};
 ghost use Rattle.text.specs.Switches.{presentEdition};
 ghost use Rattle.reader.specs.Reading.{reading, tableOf};
 ghost use Rattle.reader.specs.Content.{contentCall, written, contentNumber};
-ghost use Rattle.duper.specs.Numbers.{readNumber};
+ghost use Rattle.editor.specs.Edit.{lentOf, correct};
+ghost use Rattle.duper.specs.Numbers.{readNumber, Crosses};
 ghost use Rattle.duper.specs.Internal.{verdictNumber, PlaceFits, wordsOf};
 use editor::edit::Change;
 use editor::edit::Verdict;
@@ -45,4 +46,23 @@ fn tell(change: Change, answer: &mut [u64; 3]) -> u64
         Verdict::Done => 0,
         Verdict::Refused(number, place) => number as u64 * 4294967296 + place as u64,
     }
+}
+
+// Replaces the value of a node, in the present edition: the refusal times 4294967296 plus its place, or 0 if it was done. `answer` is then
+// the node count, the text's length in use and the journal's.
+#[no_mangle]
+pub extern "C" fn duper_correct(
+    text: &mut [u8],
+    used: usize,
+    journal: &mut [u8],
+    kept: usize,
+    table: &mut [u32],
+    node: usize,
+    replacement: &[u8],
+    answer: &mut [u64; 3],
+) -> u64
+    ensures { λ r. ⌜ Crosses (correct presentEdition (length (now (table .entry))) (lentOf (now (text .entry)) used (now (journal .entry)) kept) node (now (replacement .entry))) r (now (text .exit)) (now (journal .exit)) (now (table .exit)) (now (answer .exit)) ⌝ }
+{
+    let change = editor::edit::correct(text, used, journal, kept, table, node, replacement);
+    tell(change, answer)
 }

@@ -1,0 +1,39 @@
+use native.Mathlib.Omega.{arith}
+use Rattle.text.specs.Switches.{presentEdition}
+use Rattle.duper.proofs.ChangeLaws.{correct-place, fits, crosses}
+use borrow.Author.Needs.{needs}
+use Rattle.duper.proofs.duper_correct.Statement.{statement}
+use Rattle.duper.proofs.duper_correct.Tie as tie
+use Rattle.duper.proofs.duper_correct.Reads as reads
+use Rattle.duper.proofs.duper_correct.Lts as lts
+use Rattle.duper.proofs.tell.Reads as tell-reads
+use Rattle.editor.proofs.edit.correct.Reads as correct-reads
+
+-- src/lib.rt:66:9
+correct-requires : tie.Need-correct-requires
+correct-requires c κs = search needs
+
+-- src/lib.rt:67:5
+tell-requires : tie.Need-tell-requires
+tell-requires c κs = fits (correct-place presentEdition _ _ _ _) (c .before .before .before .before .before .before .before .correct .ensures)
+
+-- src/lib.rt:53:1
+same-length : tie.Need-same-length
+same-length c = omega arith
+
+-- src/lib.rt:53:1
+same-length-2 : tie.Need-same-length-2
+same-length-2 c = omega arith
+
+-- src/lib.rt:53:1
+same-length-3 : tie.Need-same-length-3
+same-length-3 c = omega arith
+
+-- src/lib.rt:53:1
+returns : tie.Need-returns
+returns c = crosses (c .before .before .before .before .before .before .before .before .correct .ensures) (c .tell .ensures .0) (c .tell .ensures .1)
+
+pub duper-correct-spec : {M : Type 1} → statement M
+duper-correct-spec =
+    tie.close
+    (tie.spec correct-requires tell-requires same-length same-length-2 same-length-3 returns)
