@@ -6,6 +6,8 @@ pub mod JournalLaws
 pub mod ReadLaws
 pub mod CallLaws
 pub mod CorrectLaws
+pub mod LastEntryLaws
+pub mod UndoCallLaws
 pub mod BookLaws
 pub mod UndoLaws
 pub mod Demand3

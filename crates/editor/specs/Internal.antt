@@ -4,7 +4,7 @@ use Prim.Native.Nat.{ℕ, _+_, _-_, _≤_}
 use mathlib.Core.Path.{_≡_}
 use mathlib.Core.Bool.{true, false, not, cond}
 use mathlib.Core.List.{List}
-use lib.Dec.{ltb}
+use lib.Dec.{ltb, eqb}
 use lib.ListN.{length}
 use Rattle.text.specs.declared.switches.Switches.{Switches}
 use Rattle.reader.specs.declared.read.Reading.{Reading}
@@ -13,9 +13,11 @@ use Rattle.reader.specs.Reading.{reading, reads, nodeCount, tableOf}
 use Rattle.editor.specs.declared.edit.Verdict.{Verdict}
 use Rattle.editor.specs.declared.edit.Verdict.the-variants as A
 use Rattle.editor.specs.declared.edit.Change.{Change}
+use Rattle.editor.specs.declared.journal.Entry.{Entry}
+use Rattle.editor.specs.declared.journal.Entry.the-variants as E
 use Rattle.editor.specs.declared.trial.Tried.{Tried}
 use Rattle.editor.specs.declared.trial.Tried.the-variants as Y
-use Rattle.editor.specs.Edit.{Lent, textOf, Result, Shows, badLength, lengthRefused, onceRead, splice, entry, withText, overwritten, noRoom}
+use Rattle.editor.specs.Edit.{Lent, textOf, journalOf, Result, Shows, badLength, lengthRefused, onceRead, splice, entry, withText, overwritten, noRoom, entryStart, entryNew, entrySize, badEntry}
 
 abbrev pub changed : Verdict → (nodes used kept : ℕ) → Change
 changed verdict nodes used kept = record { verdict = verdict; nodes = nodes; used = used; kept = kept }
@@ -89,3 +91,19 @@ pub record Within (b : Lent) (start stop : ℕ) (replacement : List ℕ) : Type 
   pub forwards : start ≤ stop
   pub ends : stop ≤ b .used
   pub short : length replacement ≤ 65536
+
+-- ---- undo, by the journal's last entry
+
+unfoldable pub lastEntry : (journal text : List ℕ) → Entry
+lastEntry journal text =
+    cond (eqb (length journal) 0) E.Nothing
+    (cond (badEntry journal text) E.Bad
+    (E.Last (entryStart journal) (entryStart journal + entryNew journal) (entrySize journal)))
+
+-- the journal's last entry is good, and its replacement stands in the text in use
+pub record LastIs (b : Lent) (start stop size : ℕ) : Type 0 where
+  pub is : lastEntry (journalOf b) (textOf b) ≡ E.Last start stop size
+  pub forwards : start ≤ stop
+  pub ends : stop ≤ b .used
+  pub least : 12 ≤ size
+  pub most : size ≤ b .kept

@@ -1,11 +1,13 @@
-// Correction of one value, on lent buffers.
+// Correction of one value, and undo, on lent buffers.
 ghost use mathlib.Core.Path.{_≡_};
 ghost use Prim.Native.Nat.{_<_};
 ghost use lib.ListN.{length, getD};
 ghost use Rattle.text.specs.Switches.{presentEdition};
-ghost use Rattle.editor.specs.Edit.{lentOf, Shows, decided, correctionRefusal, withCorrection, correct};
-ghost use Rattle.editor.specs.Internal.{refusedWith, Opens, ReadNow, Within, replaceRefusal, withReplacement};
+ghost use Rattle.editor.specs.Edit.{lentOf, Shows, decided, correctionRefusal, withCorrection, correct, undoRefusal, withUndo, undo};
+ghost use Rattle.editor.specs.Internal.{refusedWith, Opens, ReadNow, Within, replaceRefusal, withReplacement, LastIs};
 use crate::buffers::put_text;
+use crate::journal::Entry;
+use crate::journal::last_entry;
 use crate::journal::put_entry;
 use crate::trial::Tried;
 use crate::trial::try_text;
@@ -222,4 +224,113 @@ pub fn correct(
         node,
         replacement,
     )
+}
+
+// Puts the last entry's old bytes back in place of those from `start` to before `stop`, if there is room and the new text reads.
+fn undo_entry(
+    sw: Switches,
+    text: &mut [u8],
+    used: usize,
+    journal: &[u8],
+    kept: usize,
+    table: &mut [u32],
+    nodes: usize,
+    start: usize,
+    stop: usize,
+    size: usize,
+) -> Change
+    requires { ⌜ ReadNow sw (length (now table)) (lentOf (now text) used (now journal) kept) (now table) nodes × LastIs (lentOf (now text) used (now journal) kept) start stop size ⌝ }
+    ensures { λ r. ⌜ Shows (decided sw (length (now (table .entry))) (lentOf (now (text .entry)) used (now (journal .entry)) kept) (undoRefusal sw (length (now (table .entry))) (lentOf (now (text .entry)) used (now (journal .entry)) kept)) (withUndo (lentOf (now (text .entry)) used (now (journal .entry)) kept))) r (now (text .exit)) (now (journal .entry)) (now (table .exit)) ⌝ }
+{
+    let old = size - 12;
+    let new = start + old + (used - stop);
+    if text.len() < new {
+        return refusal(14, nodes, used, kept);
+    }
+    if 65536 < new {
+        return refusal(14, nodes, used, kept);
+    }
+    let end = kept - size;
+    let mut fresh = [0u8; 65536];
+    match try_text(
+        sw,
+        &text[..used],
+        start,
+        stop,
+        &journal[end..kept - 12],
+        &mut fresh,
+        table,
+    ) {
+        Tried::Not(present) => refusal(16, present, used, kept),
+        Tried::Reads(count) => {
+            put_text(text, used, &fresh[..new]);
+            Change {
+                verdict: Verdict::Done,
+                nodes: count,
+                used: new,
+                kept: end,
+            }
+        }
+    }
+}
+
+// An undo once the present text has been read: there is an entry, and it is good.
+fn undo_read(
+    sw: Switches,
+    text: &mut [u8],
+    used: usize,
+    journal: &[u8],
+    kept: usize,
+    table: &mut [u32],
+    nodes: usize,
+) -> Change
+    requires { ⌜ ReadNow sw (length (now table)) (lentOf (now text) used (now journal) kept) (now table) nodes ⌝ }
+    ensures { λ r. ⌜ Shows (decided sw (length (now (table .entry))) (lentOf (now (text .entry)) used (now (journal .entry)) kept) (undoRefusal sw (length (now (table .entry))) (lentOf (now (text .entry)) used (now (journal .entry)) kept)) (withUndo (lentOf (now (text .entry)) used (now (journal .entry)) kept))) r (now (text .exit)) (now (journal .entry)) (now (table .exit)) ⌝ }
+{
+    match last_entry(&journal[..kept], &text[..used]) {
+        Entry::Nothing => refusal(17, nodes, used, kept),
+        Entry::Bad => refusal(18, nodes, used, kept),
+        Entry::Last { start, stop, size } => undo_entry(
+            sw,
+            text,
+            used,
+            journal,
+            kept,
+            table,
+            nodes,
+            start,
+            stop,
+            size,
+        ),
+    }
+}
+
+// Takes back the last correction that the journal holds, in a text of the edition that `sw` says. The journal is only read: its entry
+// is cut off by the length that is answered.
+pub fn undo_edition(
+    sw: Switches,
+    text: &mut [u8],
+    used: usize,
+    journal: &[u8],
+    kept: usize,
+    table: &mut [u32],
+) -> Change
+    ensures { λ r. ⌜ Shows (undo sw (length (now (table .entry))) (lentOf (now (text .entry)) used (now (journal .entry)) kept)) r (now (text .exit)) (now (journal .entry)) (now (table .exit)) ⌝ }
+{
+    match open_text(sw, text, used, journal, kept, table) {
+        Reading::Refused(number, place) => Change {
+            verdict: Verdict::Refused(number, place),
+            nodes: 0,
+            used,
+            kept,
+        },
+        Reading::Taken(nodes) => undo_read(sw, text, used, journal, kept, table, nodes),
+    }
+}
+
+// The same for a text of the present edition.
+pub fn undo(text: &mut [u8], used: usize, journal: &[u8], kept: usize, table: &mut [u32]) -> Change
+    ensures { λ r. ⌜ Shows (undo presentEdition (length (now (table .entry))) (lentOf (now (text .entry)) used (now (journal .entry)) kept)) r (now (text .exit)) (now (journal .entry)) (now (table .exit)) ⌝ }
+{
+    undo_edition(present(), text, used, journal, kept, table)
 }

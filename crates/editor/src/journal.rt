@@ -4,6 +4,7 @@ ghost use Prim.Native.Nat.{_≤_, _<_, _+_};
 ghost use mathlib.Core.List.{_++_};
 ghost use lib.ListN.{length, drop};
 ghost use Rattle.editor.specs.Edit.{le32, fromLe32, trailer, overwritten};
+ghost use Rattle.editor.specs.Internal.{lastEntry};
 use crate::buffers::put_at;
 
 fn wide(b: u8) -> usize
@@ -41,4 +42,41 @@ pub fn put_entry(journal: &mut [u8], kept: usize, old: &[u8], start: usize, new:
     put_number(journal, at, start);
     put_number(journal, at + 4, new);
     put_number(journal, at + 8, old.len() + 12);
+}
+
+// The last entry of a journal in use, against the text in use: there is none, or it is bad, or it is `size` bytes long and its
+// replacement stands in the text from `start` to before `stop`.
+pub enum Entry {
+    Nothing,
+    Bad,
+    Last {
+        start: usize,
+        stop: usize,
+        size: usize,
+    },
+}
+
+pub fn last_entry(journal: &[u8], text: &[u8]) -> Entry
+    ensures { λ r. ⌜ r ≡ lastEntry (now (journal .entry)) (now (text .entry)) ⌝ }
+{
+    let n = journal.len();
+    if n == 0 {
+        return Entry::Nothing;
+    }
+    if n < 12 {
+        return Entry::Bad;
+    }
+    let size = number_at(journal, n - 12 + 8);
+    if size < 12 {
+        return Entry::Bad;
+    }
+    if n < size {
+        return Entry::Bad;
+    }
+    let start = number_at(journal, n - 12);
+    let stop = start + number_at(journal, n - 12 + 4);
+    if text.len() < stop {
+        return Entry::Bad;
+    }
+    Entry::Last { start, stop, size }
 }
