@@ -4,7 +4,7 @@ ghost use lib.ListN.{length};
 ghost use Rattle.text.specs.Switches.{presentEdition};
 ghost use Rattle.reader.specs.Reading.{reading, tableOf};
 ghost use Rattle.reader.specs.Content.{contentCall, written, contentNumber};
-ghost use Rattle.editor.specs.Edit.{lentOf, correct};
+ghost use Rattle.editor.specs.Edit.{lentOf, correct, undo};
 ghost use Rattle.duper.specs.Numbers.{readNumber, Crosses};
 ghost use Rattle.duper.specs.Internal.{verdictNumber, PlaceFits, wordsOf};
 use editor::edit::Change;
@@ -64,5 +64,21 @@ pub extern "C" fn duper_correct(
     ensures { λ r. ⌜ Crosses (correct presentEdition (length (now (table .entry))) (lentOf (now (text .entry)) used (now (journal .entry)) kept) node (now (replacement .entry))) r (now (text .exit)) (now (journal .exit)) (now (table .exit)) (now (answer .exit)) ⌝ }
 {
     let change = editor::edit::correct(text, used, journal, kept, table, node, replacement);
+    tell(change, answer)
+}
+
+// Takes back the correction that the journal's last entry is of, in the present edition: answers as `duper_correct` does.
+#[no_mangle]
+pub extern "C" fn duper_undo(
+    text: &mut [u8],
+    used: usize,
+    journal: &mut [u8],
+    kept: usize,
+    table: &mut [u32],
+    answer: &mut [u64; 3],
+) -> u64
+    ensures { λ r. ⌜ Crosses (undo presentEdition (length (now (table .entry))) (lentOf (now (text .entry)) used (now (journal .entry)) kept)) r (now (text .exit)) (now (journal .exit)) (now (table .exit)) (now (answer .exit)) ⌝ }
+{
+    let change = editor::edit::undo(text, used, journal, kept, table);
     tell(change, answer)
 }

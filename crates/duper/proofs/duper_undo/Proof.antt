@@ -1,0 +1,39 @@
+use native.Mathlib.Omega.{arith}
+use Rattle.text.specs.Switches.{presentEdition}
+use Rattle.duper.proofs.ChangeLaws.{undo-place, fits, crosses}
+use borrow.Author.Needs.{needs}
+use Rattle.duper.proofs.duper_undo.Statement.{statement}
+use Rattle.duper.proofs.duper_undo.Tie as tie
+use Rattle.duper.proofs.duper_undo.Reads as reads
+use Rattle.duper.proofs.duper_undo.Lts as lts
+use Rattle.duper.proofs.tell.Reads as tell-reads
+use Rattle.editor.proofs.edit.undo.Reads as undo-reads
+
+-- src/lib.rt:82:9
+undo-requires : tie.Need-undo-requires
+undo-requires c κs = search needs
+
+-- src/lib.rt:83:5
+tell-requires : tie.Need-tell-requires
+tell-requires c κs = fits (undo-place presentEdition _ _) (c .before .before .before .before .before .undo .ensures)
+
+-- src/lib.rt:71:1
+same-length : tie.Need-same-length
+same-length c = omega arith
+
+-- src/lib.rt:71:1
+same-length-2 : tie.Need-same-length-2
+same-length-2 c = omega arith
+
+-- src/lib.rt:71:1
+same-length-3 : tie.Need-same-length-3
+same-length-3 c = omega arith
+
+-- src/lib.rt:71:1
+returns : tie.Need-returns
+returns c = crosses (c .before .before .before .before .before .before .undo .ensures) (c .tell .ensures .0) (c .tell .ensures .1)
+
+pub duper-undo-spec : {M : Type 1} → statement M
+duper-undo-spec =
+    tie.close
+    (tie.spec undo-requires tell-requires same-length same-length-2 same-length-3 returns)
