@@ -16,10 +16,16 @@
 //! its surroundings (7 to 10). So the first fault is the one at the first
 //! token that has any, and its own goes before its surroundings': "Among 3 to
 //! 10 the smallest place counts, then the smallest number."
+//!
+//! Upon the reader stand corrections and undo: [`correct`] and [`undo`] over
+//! lent buffers, and [`book`], document 01's plain book, which has no buffers
+//! and works everything out anew from the corrections in force.
 
 #![forbid(unsafe_code)]
 #![warn(missing_docs)]
 
+pub mod book;
+mod change;
 mod nodes;
 mod numbers;
 mod strings;
@@ -28,6 +34,7 @@ mod tokens;
 #[cfg(test)]
 mod tests;
 
+pub use change::{correct, undo, Answer};
 use nodes::{Arena, Entry};
 
 /// "text at most 65,536 bytes"

@@ -1,3 +1,14 @@
+//! Corrections, undo and the plain book: document 01's own example, where its
+//! lines run, and the calls held against the book. Expected values are taken
+//! from the papers.
+
+use second::book::{self, pages, Call};
+use second::{correct, read, undo, Answer, Refusal, ROW};
+
+fn nested(depth: usize) -> String {
+    "[".repeat(depth) + &"]".repeat(depth)
+}
+
 #[test]
 fn both_sides_correction() {
     let mut text = *b"[1, null]";
@@ -13,7 +24,7 @@ fn both_sides_correction() {
     let mut expected = [9; 40];
     assert_eq!(read(b"[1, 12.5]", &mut expected), Ok(3));
     assert_eq!(table, expected);
-    let answer = undo(&mut text, 9, &mut journal, 16, &mut table);
+    let answer = undo(&mut text, 9, &journal, 16, &mut table);
     assert_eq!(answer, Answer { refusal: None, nodes: 3, used: 9, kept: 0 });
     assert_eq!(&text, b"[1, null]");
     assert_eq!(journal[..4], *b"null");
@@ -96,7 +107,7 @@ impl Lent {
 }
 
 #[test]
-fn readings_59_sizes_of_the_whole() {
+fn reading_of_sizes_alone_and_in_the_whole() {
     // 32 deep alone under a node that isn't the root.
     let mut lent = Lent::new(b"[1]", 300, b"", 300, 100);
     lent.correct_refused(1, nested(32).as_bytes(), 16, 0);
@@ -114,11 +125,27 @@ fn readings_59_sizes_of_the_whole() {
 }
 
 #[test]
-fn readings_62_to_66_buffers() {
-    // 62, 68: the identifier goes too, what surrounds the value stays, bytes
+fn reading_of_the_root() {
+    // What stands around the root stays, and its identifier goes too.
+    let mut lent = Lent::new(b" /*a*/ A([1]) // b", 40, b"", 99, 9);
+    for part in ["1", "A(1)", "null", "", " []", "[] ", "[]//", "[],", "A(B([]))"] {
+        lent.correct_refused(0, part.as_bytes(), 13, 0);
+    }
+    let answer = lent.correct(0, b"{}");
+    assert_eq!(answer, Answer { refusal: None, nodes: 1, used: 14, kept: 18 });
+    assert_eq!(lent.text[..18], *b" /*a*/ {} // b\0\0\0\0");
+    assert_eq!(lent.text[18..], [0xEE; 22]);
+    assert_eq!(lent.journal[..18], *b"A([1])\x07\0\0\0\x02\0\0\0\x12\0\0\0");
+    (lent.used, lent.kept) = (answer.used, answer.kept);
+    assert_eq!(lent.correct(0, b"B((1,2))").nodes, 3);
+}
+
+#[test]
+fn reading_of_buffers_after_a_correction() {
+    // The identifier goes too, what surrounds the value stays, bytes
     // no longer used become 0 and later ones stay.
     let mut lent = Lent::new(b"[ /*a*/ A(1) /*b*/ ,2]", 30, b"", 40, 9);
-    let answer = lent.correct(1, b"x".as_slice());
+    let answer = lent.correct(1, b"x");
     assert_eq!(answer.refusal, Some(Refusal { number: 13, place: 0 }));
     let answer = lent.correct(1, b"7");
     assert_eq!(answer, Answer { refusal: None, nodes: 3, used: 19, kept: 16 });
@@ -131,14 +158,14 @@ fn readings_62_to_66_buffers() {
     assert_eq!(answer, Answer { refusal: None, nodes: 3, used: 23, kept: 29 });
     assert_eq!(lent.text[..23], *b"[ /*a*/ B({}) /*b*/ ,2]");
     assert_eq!(lent.text[23..], [0xEE; 7]);
-    // 63
+    // The place of 1 to 10 is the reading's own.
     let mut long = Lent::new(&[b' '; 65_537], 70_000, b"", 9, 2);
     long.correct_refused(0, b"[]", 1, 65_536);
     long.undo_refused(1, 65_536);
     let mut lent = Lent::new(b"[00]", 9, b"", 9, 2);
     lent.correct_refused(0, b"[]", 3, 1);
     lent.undo_refused(3, 1);
-    // 64
+    // 11 goes before everything else.
     let mut lent = Lent::new(b"[00]", 4, b"", 9, 2);
     lent.used = 5;
     lent.correct_refused(9, b"", 11, 0);
@@ -146,7 +173,7 @@ fn readings_62_to_66_buffers() {
     (lent.used, lent.kept) = (4, 10);
     lent.correct_refused(9, b"", 11, 0);
     lent.undo_refused(11, 0);
-    // 65, 66: `stays` looks at the table and the count after 12 to 18 too.
+    // `stays` looks at the table and the count after 12 to 18 too.
     let mut lent = Lent::new(b"[1, null]", 9, b"", 15, 3);
     lent.correct_refused(3, b"", 12, 0);
     lent.correct_refused(usize::MAX, b"1", 12, 0);
@@ -162,7 +189,7 @@ fn readings_62_to_66_buffers() {
 }
 
 #[test]
-fn readings_67_and_69_rooms() {
+fn reading_of_rooms() {
     let mut lent = Lent::new(b"[1, null]", 9, b"", 15, 3);
     lent.correct_refused(2, b"[[]] ", 13, 0);
     lent.correct_refused(2, b"[[]][", 13, 0);
@@ -190,11 +217,11 @@ fn entry(old: &[u8], start: u32, replacement: u32, third: u32) -> Vec<u8> {
 }
 
 #[test]
-fn readings_71_to_77_undo() {
-    // 71
+fn reading_of_undo() {
+    // The reading goes before 17 and 18.
     Lent::new(b"[", 9, b"", 9, 3).undo_refused(7, 1);
     Lent::new(b"[", 9, b"abc", 9, 3).undo_refused(7, 1);
-    // 72
+    // 17 is for a length of 0 alone.
     Lent::new(b"[1]", 9, b"", 9, 3).undo_refused(17, 0);
     for length in 1..12 {
         Lent::new(b"[1]", 9, &vec![0; length], 20, 3).undo_refused(18, 0);
@@ -203,13 +230,14 @@ fn readings_71_to_77_undo() {
     Lent::new(b"[1]", 9, &entry(b"", 1, 1, 13), 20, 3).undo_refused(18, 0);
     Lent::new(b"[1]", 9, &entry(b"2", 1, 1, 14), 20, 3).undo_refused(18, 0);
     Lent::new(b"[1]", 9, &entry(b"2", 1, 1, u32::MAX), 20, 3).undo_refused(18, 0);
-    // 73
+    // Sums are exact: this one is no wrapped 1.
     Lent::new(b"[1]", 9, &entry(b"2", u32::MAX, 2, 13), 20, 3).undo_refused(18, 0);
-    // 74
+    // "the text's": its length in use, not the buffer's.
     Lent::new(b"[1]", 9, &entry(b"2", 1, 3, 13), 20, 3).undo_refused(18, 0);
     Lent::new(b"[1]", 9, &entry(b"2", 1, 2, 13), 20, 3).undo_refused(16, 0);
     Lent::new(b"[1]", 9, &entry(b"2", 4, 0, 13), 20, 3).undo_refused(18, 0);
-    // 75
+    // Old bytes may be none, and an entry may name no value: what comes of it
+    // decides.
     let mut lent = Lent::new(b"[1]", 9, &entry(b"", 1, 1, 12), 20, 3);
     assert_eq!(lent.undo(), Answer { refusal: None, nodes: 1, used: 2, kept: 0 });
     assert_eq!(lent.text, b"[]\0\xEE\xEE\xEE\xEE\xEE\xEE");
@@ -221,12 +249,17 @@ fn readings_71_to_77_undo() {
     assert_eq!(lent.undo(), Answer { refusal: None, nodes: 3, used: 6, kept: 0 });
     assert_eq!(lent.text[..6], *b"[12,1]");
     assert_eq!(lent.text[6..], before.text[6..]);
-    // 77
+    // The journal's bytes all stay.
     assert_eq!(lent.journal, before.journal);
-    // 76
+    // 14 goes before 16.
     Lent::new(b"[1]", 4, &entry(b"12,", 1, 0, 15), 20, 3).undo_refused(14, 0);
     Lent::new(b"[1]", 5, &entry(b"]]]", 1, 0, 15), 20, 3).undo_refused(14, 0);
     Lent::new(b"[1]", 6, &entry(b"]]]", 1, 0, 15), 20, 3).undo_refused(16, 0);
+    // 14 by the text's own limit, in a longer buffer.
+    let entry_of = |length: usize| entry(&vec![b' '; length], 3, 0, length as u32 + 12);
+    Lent::new(b"[1]", 70_000, &entry_of(65_534), 70_000, 3).undo_refused(14, 0);
+    let mut lent = Lent::new(b"[1]", 70_000, &entry_of(65_533), 70_000, 3);
+    assert_eq!(lent.undo(), Answer { refusal: None, nodes: 2, used: 65_536, kept: 0 });
     // Only the last entry is looked at.
     let two = [entry(b"zz", 9, 9, 1), entry(b"2", 1, 1, 13)].concat();
     let mut lent = Lent::new(b"[1]", 3, &two, two.len(), 3);
@@ -234,11 +267,10 @@ fn readings_71_to_77_undo() {
     assert_eq!(lent.text, b"[2]");
 }
 
-// Readings of document 01: and document 01's plain book.
+// Document 01's plain book.
 
 #[test]
 fn the_plain_book() {
-    use book::{pages, Call};
     let correct =
         |node, replacement: &[u8]| Call::Correct { node, replacement: replacement.to_vec() };
     let lent = book::Lent { text: 12, journal: 33, table: 40 };
@@ -288,7 +320,6 @@ fn the_plain_book() {
 /// last call left them, gives what the book says.
 #[test]
 fn the_book_and_the_calls_agree() {
-    use book::{pages, Call};
     let mut state = 0x1234_5678_9ABC_DEFFu64;
     let mut below = |most: usize| {
         state ^= state << 13;
@@ -338,7 +369,7 @@ fn the_book_and_the_calls_agree() {
                 Call::Correct { node, replacement } => lent.correct(*node, replacement),
                 Call::Undo => lent.undo(),
             };
-            assert_eq!(answer.refusal, page.refusal.map(Refusal::at_zero));
+            assert_eq!(answer.refusal, page.refusal.map(|number| Refusal { number, place: 0 }));
             assert_eq!(answer.nodes, page.nodes);
             (lent.used, lent.kept) = (answer.used, answer.kept);
             assert_eq!(lent.text[..lent.used], page.text);

@@ -104,7 +104,7 @@ pub fn correct(
 pub fn undo(
     text: &mut [u8],
     used: usize,
-    journal: &mut [u8],
+    journal: &[u8],
     kept: usize,
     table: &mut [u32],
 ) -> Answer {
