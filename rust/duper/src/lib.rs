@@ -1,32 +1,39 @@
 //! A safe wrapper over the Duper reader, which comes as a C archive.
 //!
-//! Two functions are the reader's own: [`read`] fills a lent table of nodes,
-//! twelve words each, and [`content`] writes the content of a string or key.
-//! [`Document`] does the lending: it owns the table of one text and lists its
-//! nodes.
+//! Four functions are the archive's own: [`read`] fills a lent table of nodes,
+//! twelve words each; [`content`] writes the content of a string or key;
+//! [`correct`] replaces a value in a lent text and notes in a lent journal what
+//! stood there; [`undo`] takes that back. [`Document`] does the lending: it
+//! owns a text, its table and its journal, and lists the nodes.
 //!
 //! Any bytes may be handed in. Each call answers or gives a [`Refusal`]; none
 //! panics and nothing has to be checked first.
 //!
 //! ```
-//! let document = duper::Document::read(b"[1, null]")?;
+//! let mut document = duper::Document::read("[1, null]")?;
 //! for node in document.nodes() {
 //!     println!("{:?} at {:?}", node.kind(), node.span());
 //! }
+//! document.correct(2, "12.5")?;
+//! assert_eq!(document.text(), b"[1, 12.5]");
+//! document.undo()?;
+//! assert_eq!(document.text(), b"[1, null]");
 //! # Ok::<(), duper::Refusal>(())
 //! ```
 
 #![deny(unsafe_op_in_unsafe_fn)]
 #![warn(missing_docs)]
 
+mod change;
 mod document;
 mod node;
 mod refusal;
 mod sys;
 
-pub use document::{Children, Document};
+pub use change::{correct, undo, Answer};
+pub use document::{Children, Document, Limits, Members};
 pub use node::{nodes, Decimal, Kind, Node, Nodes, Value};
-pub use refusal::Refusal;
+pub use refusal::{Reason, Refusal};
 
 /// Words of the table for each node.
 pub const ROW: usize = 12;

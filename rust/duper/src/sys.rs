@@ -1,6 +1,6 @@
 //! The boundary to the archive. All that is unsafe in this crate is here.
 
-use crate::Refusal;
+use crate::{Answer, Refusal};
 
 extern "C" {
     /// Answers the node count, or refusal times 4294967296 plus place.
@@ -15,6 +15,36 @@ extern "C" {
         end: u64,
         out: *mut u8,
         out_len: usize,
+    ) -> u64;
+
+    /// Answers 0, or refusal times 4294967296 plus place; and in `answer` the
+    /// node count and the lengths in use of text and journal.
+    fn duper_correct(
+        text: *mut u8,
+        text_len: usize,
+        used: usize,
+        journal: *mut u8,
+        journal_len: usize,
+        kept: usize,
+        table: *mut u32,
+        table_len: usize,
+        node: usize,
+        replacement: *const u8,
+        replacement_len: usize,
+        answer: *mut [u64; 3],
+    ) -> u64;
+
+    /// Answers as `duper_correct` does.
+    fn duper_undo(
+        text: *mut u8,
+        text_len: usize,
+        used: usize,
+        journal: *mut u8,
+        journal_len: usize,
+        kept: usize,
+        table: *mut u32,
+        table_len: usize,
+        answer: *mut [u64; 3],
     ) -> u64;
 }
 
@@ -46,4 +76,64 @@ pub(crate) fn content(
         )
     };
     Refusal::from_answer(answer)
+}
+
+pub(crate) fn correct(
+    text: &mut [u8],
+    used: usize,
+    journal: &mut [u8],
+    kept: usize,
+    table: &mut [u32],
+    node: usize,
+    replacement: &[u8],
+) -> Answer {
+    let mut counts = [0; 3];
+    // SAFETY: every pointer comes from a live slice, with that slice's own
+    // length, or from the array of three; they are aligned and not null. Text,
+    // journal, table and array are borrowed mutably for this call alone, so no
+    // two of them overlap, nor does the replacement, which is only read. No
+    // pointer is kept. `used`, `kept` and `node` are plain numbers that the
+    // archive judges itself, whatever they are.
+    let answer = unsafe {
+        duper_correct(
+            text.as_mut_ptr(),
+            text.len(),
+            used,
+            journal.as_mut_ptr(),
+            journal.len(),
+            kept,
+            table.as_mut_ptr(),
+            table.len(),
+            node,
+            replacement.as_ptr(),
+            replacement.len(),
+            &mut counts,
+        )
+    };
+    Answer::new(answer, counts)
+}
+
+pub(crate) fn undo(
+    text: &mut [u8],
+    used: usize,
+    journal: &mut [u8],
+    kept: usize,
+    table: &mut [u32],
+) -> Answer {
+    let mut counts = [0; 3];
+    // SAFETY: as for `correct`.
+    let answer = unsafe {
+        duper_undo(
+            text.as_mut_ptr(),
+            text.len(),
+            used,
+            journal.as_mut_ptr(),
+            journal.len(),
+            kept,
+            table.as_mut_ptr(),
+            table.len(),
+            &mut counts,
+        )
+    };
+    Answer::new(answer, counts)
 }
