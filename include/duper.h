@@ -1,12 +1,15 @@
 /*
- * The Duper reader and the content call, from the archive libduper.a.
+ * The Duper reader, the content call, corrections and undo, from the archive
+ * libduper.a.
  *
  * Every call may be given any bytes, any lengths and any numbers: none of
  * them needs to be checked before. What the caller must see to:
- *   - each pointer points to as many elements as the length after it says;
+ *   - each pointer points to as many elements as the length after it says,
+ *     and answer to three;
  *   - the pointer of an empty slice may be any pointer that is not null and is
  *     aligned for its element (to 4 bytes for the table);
- *   - the buffer that a call writes to must not overlap the text.
+ *   - a buffer that a call writes to must not overlap any other that the same
+ *     call is given.
  * Nothing is kept between calls, and no memory is taken from the heap.
  *
  * The numbers of refusal:
@@ -20,8 +23,17 @@
  *    8  a key that is already in this object; the second key's start
  *    9  too deep: over 32 containers open at once; the opening bracket
  *   10  a value opens with no node left in the table; its start
+ *   11  a length in use exceeds its buffer (correction and undo)
+ *   12  no such node (correction)
+ *   13  the replacement isn't one value (correction)
+ *   14  no room in the text (correction and undo)
+ *   15  no room in the journal (correction)
+ *   16  the resulting text doesn't read (correction and undo)
+ *   17  nothing to undo (undo)
+ *   18  the journal's last entry is bad (undo)
  *   19  the span isn't one string or key (content call only)
  *   20  the content is longer than the output (content call only)
+ * From 11 on the place is 0.
  *
  * The table has twelve words for each node, nodes in order of their first
  * byte, the root being node 0; ends are one past the last byte:
@@ -74,6 +86,57 @@ uint64_t duper_read(const uint8_t *text, size_t text_len,
 uint64_t duper_content(const uint8_t *text, size_t text_len,
                        uint64_t start, uint64_t end,
                        uint8_t *out, size_t out_len);
+
+/*
+ * Replaces one value of a text. The text is the first used bytes of its
+ * buffer; the rest is room for it to grow, up to 65,536 bytes. The journal
+ * notes what was replaced, and kept of its bytes are in use, 0 at first. Each
+ * call is to be given the buffers as the last one left them and the lengths it
+ * answered.
+ *
+ * The text is read into the table first: node is a number of that reading. The
+ * replacement must be one value from its first byte to its last, with no space
+ * or comment around it; for node 0 an object, array or tuple, bare or in one
+ * identifier. It takes the place of words 2 to 3 of the node. Bytes that the
+ * text no longer uses become 0, later ones stay.
+ *
+ * The journal gains an entry: the old bytes, then three 32-bit numbers, low
+ * byte first: the value's start, the replacement's length, and the length of
+ * the old bytes plus 12, which is the whole entry. Its other bytes stay.
+ *
+ * Answers 0 if the correction was made; else the refusal times 4294967296 plus
+ * its place, and then text and journal stay as they are. The first of these
+ * that holds: 11; 1 to 10, the present text isn't taken; 12; 13; 14, the new
+ * length is over text_len or 65,536; 15, kept and the entry are longer than
+ * journal_len; 16.
+ *
+ * answer[0] is the node count, answer[1] the text's length in use, answer[2]
+ * the journal's; after a refusal the two lengths are those given. The table is
+ * the reading of the text as it then stands; after 1 to 11 every word of it and
+ * the node count are 0.
+ */
+uint64_t duper_correct(uint8_t *text, size_t text_len, size_t used,
+                       uint8_t *journal, size_t journal_len, size_t kept,
+                       uint32_t *table, size_t table_len,
+                       size_t node,
+                       const uint8_t *replacement, size_t replacement_len,
+                       uint64_t answer[3]);
+
+/*
+ * Takes back the correction that the journal's last entry notes: puts the old
+ * bytes back in place of the replacement. Bytes that the text no longer uses
+ * become 0. The entry is cut off by the length in answer[2] alone; the
+ * journal's bytes all stay. Any journal may be handed in.
+ *
+ * Answers, and leaves the table, as duper_correct does. The first refusal that
+ * holds: 11; 1 to 10; 17, kept is 0; 18, kept is under 12, or the entry's third
+ * number is under 12 or over kept, or its start plus its replacement's length
+ * is over used; 14; 16.
+ */
+uint64_t duper_undo(uint8_t *text, size_t text_len, size_t used,
+                    uint8_t *journal, size_t journal_len, size_t kept,
+                    uint32_t *table, size_t table_len,
+                    uint64_t answer[3]);
 
 #ifdef __cplusplus
 }
