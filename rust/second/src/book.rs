@@ -13,7 +13,7 @@ use crate::{one_value, read, MAX_TEXT, ROW};
 
 /// The lengths of the lent buffers.
 #[derive(Debug, Clone, Copy, PartialEq, Eq)]
-pub struct Lent {
+pub struct Lengths {
     /// The text buffer, in bytes.
     pub text: usize,
     /// The journal, in bytes.
@@ -65,7 +65,7 @@ struct InForce {
 #[derive(Debug, Clone)]
 pub struct Book {
     first: Vec<u8>,
-    lent: Lent,
+    lent: Lengths,
     in_force: Vec<InForce>,
 }
 
@@ -80,7 +80,7 @@ struct Made {
 impl Book {
     /// A book over a first text. Demand 3 starts "with a text that reads" and
     /// fits its buffer; for any other the answer is `None`.
-    pub fn new(first: &[u8], lent: Lent) -> Option<Book> {
+    pub fn new(first: &[u8], lent: Lengths) -> Option<Book> {
         let book = Book { first: first.to_vec(), lent, in_force: Vec::new() };
         (first.len() <= lent.text && book.made(&[]).is_some()).then_some(book)
     }
@@ -95,19 +95,24 @@ impl Book {
                 None => Some(17),
             },
         };
-        self.page(refusal)
+        Page { refusal, ..self.page() }
+    }
+
+    /// How many corrections are in force.
+    pub fn in_force(&self) -> usize {
+        self.in_force.len()
     }
 
     /// The page as things stand. `None` from [`Book::made`] can't happen for a
     /// list in force; an empty page would show it.
-    fn page(&self, refusal: Option<u32>) -> Page {
+    pub fn page(&self) -> Page {
         let Made { text, journal, table, nodes } = self.made(&self.in_force).unwrap_or(Made {
             text: Vec::new(),
             journal: Vec::new(),
             table: Vec::new(),
             nodes: 0,
         });
-        Page { refusal, nodes, text, journal, table }
+        Page { refusal: None, nodes, text, journal, table }
     }
 
     /// "A correction is refused with the first that holds: 12, the reading of
@@ -168,7 +173,7 @@ fn replace(text: &[u8], table: &[u32], node: usize, new: &[u8]) -> (Vec<u8>, Vec
 }
 
 /// Enters a whole list of calls and gives a page for each.
-pub fn pages(first: &[u8], lent: Lent, calls: &[Call]) -> Option<Vec<Page>> {
+pub fn pages(first: &[u8], lent: Lengths, calls: &[Call]) -> Option<Vec<Page>> {
     let mut book = Book::new(first, lent)?;
     Some(calls.iter().map(|call| book.enter(call)).collect())
 }

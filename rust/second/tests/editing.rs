@@ -273,7 +273,7 @@ fn reading_of_undo() {
 fn the_plain_book() {
     let correct =
         |node, replacement: &[u8]| Call::Correct { node, replacement: replacement.to_vec() };
-    let lent = book::Lent { text: 12, journal: 33, table: 40 };
+    let lent = book::Lengths { text: 12, journal: 33, table: 40 };
     let calls = [
         Call::Undo,
         correct(2, b"12.5"),
@@ -347,7 +347,7 @@ fn the_book_and_the_calls_agree() {
     ];
     for _ in 0..300 {
         let first = b"{a:[1,2], b : X(null) /*c*/, c:(true,)}";
-        let room = book::Lent {
+        let room = book::Lengths {
             text: first.len() + below(40),
             journal: below(200),
             table: 8 * ROW + below(60),

@@ -1,7 +1,12 @@
 //! The comparison: whole tables, numbers and places, and contents with the
-//! output buffers compared whole.
+//! output buffers compared whole; corrections and undos with all buffers
+//! compared whole.
+
+use second::book::Call;
 
 use crate::check::{self, Answer, ContentCall};
+use crate::editing::{self, Seen};
+use crate::histories::{History, Lent};
 use crate::random::Random;
 use crate::texts::Case;
 
@@ -50,6 +55,59 @@ pub fn compare(case: &Case, random: &mut Random) -> Result<(), String> {
             ));
         }
         check::content(&call, our_answer, &our_out).map_err(|what| format!("{call:?}: {what}"))?;
+    }
+    Ok(())
+}
+
+/// `duper`'s calls on lent buffers, in document 01's terms.
+fn editor(lent: &mut Lent, call: &Call) -> second::Answer {
+    let Lent { text, used, journal, kept, table } = lent;
+    let answer = match call {
+        Call::Correct { node, replacement } => {
+            duper::correct(text, *used, journal, *kept, table, *node, replacement)
+        }
+        Call::Undo => duper::undo(text, *used, journal, *kept, table),
+    };
+    let duper::Answer { outcome, nodes, used, kept } = answer;
+    second::Answer { refusal: outcome.err().map(in_second), nodes, used, kept }
+}
+
+fn in_second(refusal: duper::Refusal) -> second::Refusal {
+    second::Refusal { number: refusal.number, place: refusal.place.into() }
+}
+
+/// Holds `duper`'s calls against the plain book and `second`, in one history
+/// and some single calls; the error tells the difference.
+pub fn edits(random: &mut Random, seen: &mut Seen) -> Result<(), String> {
+    editing::trial(random, editor, document, seen)
+}
+
+/// Holds a document that owns its buffers against the plain book. The rooms it
+/// makes are its own; its answers must not show them.
+fn document(history: &History) -> Result<(), String> {
+    let lengths = history.lengths;
+    let limits =
+        duper::Limits { text: lengths.text, journal: lengths.journal, nodes: lengths.table / 12 };
+    let wrong = |number, what: String| Err(editing::told_to(history, number, &what));
+    let mut document = match duper::Document::read_with(&history.first[..], limits) {
+        Ok(document) => document,
+        Err(refusal) => return wrong(0, format!("the document: {refusal:?}")),
+    };
+    for (number, (call, page)) in history.calls.iter().enumerate() {
+        let answer = match call {
+            Call::Correct { node, replacement } => document.correct(*node, replacement),
+            Call::Undo => document.undo(),
+        };
+        let refusal = answer.err().map(|refusal| (refusal.number, refusal.place));
+        if refusal != page.refusal.map(|number| (number, 0)) {
+            return wrong(number, format!("document: {refusal:?}, book: {:?}", page.refusal));
+        }
+        let rows = &page.table[..page.nodes * 12];
+        if (document.text(), document.journal(), document.table())
+            != (&page.text[..], &page.journal[..], rows)
+        {
+            return wrong(number, "the document's text, journal or table is another".to_string());
+        }
     }
     Ok(())
 }

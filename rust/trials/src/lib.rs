@@ -2,15 +2,20 @@
 //!
 //! [`random`], [`writer`] and [`texts`] make the cases and depend on no
 //! reader. [`check`] looks at one reader's answers alone: invariants, and what
-//! the making of a case tells beforehand. `against` compares both readers; it
-//! needs the feature of that name, on unless turned off, since it links the
-//! archive.
+//! the making of a case tells beforehand. [`histories`] makes lists of
+//! corrections and undos, with what the plain book says of them, [`single`]
+//! makes calls on any buffers, and [`editing`] holds both against the book and
+//! `second`. `against` compares both readers and their calls; it needs the
+//! feature of that name, on unless turned off, since it links the archive.
 
 #![forbid(unsafe_code)]
 
 #[cfg(feature = "against")]
 pub mod against;
 pub mod check;
+pub mod editing;
+pub mod histories;
 pub mod random;
+pub mod single;
 pub mod texts;
 pub mod writer;

@@ -42,7 +42,15 @@ pub fn write(random: &mut Random, nodes: usize) -> Written {
     writer.done
 }
 
-/// One value alone, for replacements and content calls.
+/// Writes one value of about so many nodes from its first byte to its last, for
+/// replacements; `root`: one that can be the root.
+pub fn write_value(random: &mut Random, nodes: usize, root: bool) -> Written {
+    let mut writer = Writer { random, done: Written::default(), budget: nodes, room: 32 };
+    writer.value(None, (0, 0), root);
+    writer.done
+}
+
+/// One string alone, for replacements and content calls.
 pub fn write_string(random: &mut Random) -> (Vec<u8>, Vec<u8>) {
     let mut writer = Writer { random, done: Written::default(), budget: 1, room: 32 };
     let content = if writer.random.one_in(2) { writer.text_string() } else { writer.byte_string() };

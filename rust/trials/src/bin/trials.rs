@@ -1,61 +1,168 @@
-//! `trials --texts N --seed S`: holds `duper` against `second` on N texts.
+//! `trials --texts N --histories N --seed S`: holds `duper` against `second`
+//! on N texts, and on N histories of corrections and undos.
 //!
-//! `--self` looks at `second` alone; `--case K` runs that case only. `--short`
-//! runs every text of up to two bytes, bare and in a few surroundings, in place
-//! of random ones.
+//! `--self` looks at `second` alone; `--case K` or `--history K` runs that text
+//! or history only. `--short` runs every text of up to two bytes, bare and in a
+//! few surroundings, in place of random ones.
 
+use std::ops::Range;
 use std::process::ExitCode;
 use std::time::{Duration, Instant, SystemTime};
 
+use trials::editing::{self, Seen};
 use trials::random::Random;
-use trials::texts::{self, Case};
+use trials::texts;
 
 /// What to run.
 struct Options {
-    texts: u64,
+    texts: Range<u64>,
+    histories: Range<u64>,
     seed: u64,
     alone: bool,
     short: bool,
-    case: Option<u64>,
 }
 
-const USAGE: &str = "trials [--self] [--short] [--texts N] [--seed S] [--case K]";
+const USAGE: &str = "trials [--self] [--seed S] [--short | --texts N | --case K] \
+                     [--histories N | --history K]";
 
 fn options() -> Result<Options, String> {
     let now = SystemTime::now().duration_since(SystemTime::UNIX_EPOCH).unwrap_or_default();
-    let mut options = Options {
-        texts: 100_000,
-        seed: now.as_nanos() as u64,
-        alone: false,
-        short: false,
-        case: None,
-    };
+    let (mut texts, mut histories) = (None, None);
+    let (mut seed, mut alone, mut short) = (now.as_nanos() as u64, false, false);
     let mut arguments = std::env::args().skip(1);
     while let Some(argument) = arguments.next() {
         let mut number = || {
             let given = arguments.next().unwrap_or_default();
             given.parse::<u64>().map_err(|_| format!("{argument}: not a number: {given:?}"))
         };
+        let only = |number: u64| number..number.saturating_add(1);
         match argument.as_str() {
-            "--texts" => options.texts = number()?,
-            "--seed" => options.seed = number()?,
-            "--case" => options.case = Some(number()?),
-            "--self" => options.alone = true,
-            "--short" => options.short = true,
+            "--texts" => texts = Some(0..number()?),
+            "--case" => texts = Some(only(number()?)),
+            "--histories" => histories = Some(0..number()?),
+            "--history" => histories = Some(only(number()?)),
+            "--seed" => seed = number()?,
+            "--self" => alone = true,
+            "--short" => short = true,
             _ => return Err(format!("unknown argument {argument}\nusage: {USAGE}")),
         }
     }
-    Ok(options)
+    // What isn't named isn't run, unless nothing is named.
+    let (texts, histories) = match (texts, histories) {
+        (None, histories) if short => (0..texts::SHORT, histories.unwrap_or(0..0)),
+        (None, None) => (0..100_000, 0..10_000),
+        (texts, histories) => (texts.unwrap_or(0..0), histories.unwrap_or(0..0)),
+    };
+    Ok(Options { texts, histories, seed, alone, short })
 }
 
 #[cfg(feature = "against")]
-fn compare(case: &Case, random: &mut Random) -> Result<(), String> {
-    trials::against::compare(case, random)
-}
+use trials::against::{compare, edits};
 
 /// Never called: `main` ends before.
 #[cfg(not(feature = "against"))]
-fn compare(_: &Case, _: &mut Random) -> Result<(), String> {
+fn compare(_: &texts::Case, _: &mut Random) -> Result<(), String> {
+    Ok(())
+}
+
+/// Never called either.
+#[cfg(not(feature = "against"))]
+fn edits(_: &mut Random, _: &mut Seen) -> Result<(), String> {
+    Ok(())
+}
+
+/// A line on standard error every three seconds.
+struct Progress {
+    started: Instant,
+    told: Instant,
+}
+
+impl Progress {
+    fn new() -> Progress {
+        Progress { started: Instant::now(), told: Instant::now() }
+    }
+
+    fn tell(&mut self, done: impl FnOnce() -> String) {
+        if self.told.elapsed() > Duration::from_secs(3) {
+            self.told = Instant::now();
+            eprintln!("{}, {:.0} s", done(), self.started.elapsed().as_secs_f64());
+        }
+    }
+
+    fn seconds(&self) -> f64 {
+        self.started.elapsed().as_secs_f64()
+    }
+}
+
+/// The random texts, or the short ones. The error is what to print.
+fn run_texts(options: &Options) -> Result<(), String> {
+    let seed = options.seed;
+    let total = options.texts.end - options.texts.start;
+    let mut progress = Progress::new();
+    let mut bytes = 0u64;
+    for number in options.texts.clone() {
+        let case = if options.short { texts::short(number) } else { texts::case(seed, number) };
+        bytes += case.text.len() as u64;
+        let mut random = Random::for_case(!seed, number);
+        let outcome = if options.alone {
+            trials::check::second_alone(&case, &mut random)
+        } else {
+            compare(&case, &mut random)
+        };
+        outcome.map_err(|difference| {
+            let short = if options.short { "--short " } else { "" };
+            format!(
+                "difference in case {number} of seed {seed} ({}); again: \
+                 {short}--seed {seed} --case {number}\n\
+                 table of {} words, text of {} bytes:\n{}\n{difference}",
+                case.sort,
+                case.words,
+                case.text.len(),
+                case.text.escape_ascii()
+            )
+        })?;
+        progress.tell(|| format!("{} of {total} texts, {bytes} bytes", number + 1));
+    }
+    println!("{total} texts, no difference, {:.1} s", progress.seconds());
+    Ok(())
+}
+
+/// The histories. The error is what to print.
+fn run_histories(options: &Options) -> Result<(), String> {
+    let seed = options.seed;
+    let total = options.histories.end - options.histories.start;
+    let mut progress = Progress::new();
+    let mut seen = Seen::default();
+    for number in options.histories.clone() {
+        let random = &mut Random::for_case(seed.rotate_left(32), number);
+        let outcome = if options.alone {
+            editing::trial(random, editing::second, |_| Ok(()), &mut seen)
+        } else {
+            edits(random, &mut seen)
+        };
+        outcome.map_err(|difference| {
+            format!(
+                "difference in history {number} of seed {seed}; again: \
+                 --seed {seed} --history {number}\n{difference}"
+            )
+        })?;
+        progress.tell(|| {
+            let calls: u64 = seen.histories.iter().sum();
+            format!("{} of {total} histories, {calls} calls", number + 1)
+        });
+    }
+    let sum = |seen: [u64; 21]| seen.iter().sum::<u64>();
+    println!(
+        "{total} histories of {} calls, and {} single calls, no difference, {:.1} s",
+        sum(seen.histories),
+        sum(seen.single),
+        progress.seconds()
+    );
+    for (what, seen) in [("histories", seen.histories), ("single calls", seen.single)] {
+        let refused = (1..=20).filter(|&number| seen[number] > 0);
+        let refused: Vec<_> = refused.map(|number| format!("{number}: {}", seen[number])).collect();
+        println!("  {what}: accepted {}; refused {}", seen[0], refused.join(", "));
+    }
     Ok(())
 }
 
@@ -71,39 +178,19 @@ fn main() -> ExitCode {
         eprintln!("built without the feature `against`: only --self can run");
         return ExitCode::from(2);
     }
-    let seed = options.seed;
-    println!("seed {seed}");
-    let cases = match options.case {
-        Some(case) => case..case.saturating_add(1),
-        None if options.short => 0..texts::SHORT,
-        None => 0..options.texts,
-    };
-    let total = cases.end - cases.start;
-    let started = Instant::now();
-    let mut told = started;
-    let mut bytes = 0u64;
-    for number in cases {
-        let case = if options.short { texts::short(number) } else { texts::case(seed, number) };
-        bytes += case.text.len() as u64;
-        let mut random = Random::for_case(!seed, number);
-        let outcome = if options.alone {
-            trials::check::second_alone(&case, &mut random)
-        } else {
-            compare(&case, &mut random)
-        };
-        if let Err(difference) = outcome {
-            println!("difference in case {number} of seed {seed} ({})", case.sort);
-            println!("table of {} words, text of {} bytes:", case.words, case.text.len());
-            println!("{}", case.text.escape_ascii());
+    println!("seed {}", options.seed);
+    let mut outcome = Ok(());
+    if !options.texts.is_empty() {
+        outcome = run_texts(&options);
+    }
+    if outcome.is_ok() && !options.histories.is_empty() {
+        outcome = run_histories(&options);
+    }
+    match outcome {
+        Ok(()) => ExitCode::SUCCESS,
+        Err(difference) => {
             println!("{difference}");
-            return ExitCode::FAILURE;
-        }
-        if told.elapsed() > Duration::from_secs(3) {
-            told = Instant::now();
-            let seconds = started.elapsed().as_secs_f64();
-            eprintln!("{} of {total} texts, {bytes} bytes, {seconds:.0} s", number + 1);
+            ExitCode::FAILURE
         }
     }
-    println!("{total} texts, no difference");
-    ExitCode::SUCCESS
 }
