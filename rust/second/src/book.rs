@@ -103,8 +103,8 @@ impl Book {
         self.in_force.len()
     }
 
-    /// The page as things stand. `None` from [`Book::made`] can't happen for a
-    /// list in force; an empty page would show it.
+    /// The page as things stand. No text on the way fails to read, for a list
+    /// in force; an empty page would show it.
     pub fn page(&self) -> Page {
         let Made { text, journal, table, nodes } = self.made(&self.in_force).unwrap_or(Made {
             text: Vec::new(),

@@ -5,7 +5,7 @@
 use second::book::Call;
 
 use crate::check::{self, Answer, ContentCall};
-use crate::editing::{self, Seen};
+use crate::editing::{self, OnTrial, Seen};
 use crate::histories::{History, Lent};
 use crate::random::Random;
 use crate::texts::Case;
@@ -79,35 +79,86 @@ fn in_second(refusal: duper::Refusal) -> second::Refusal {
 /// Holds `duper`'s calls against the plain book and `second`, in one history
 /// and some single calls; the error tells the difference.
 pub fn edits(random: &mut Random, seen: &mut Seen) -> Result<(), String> {
-    editing::trial(random, editor, document, seen)
+    editing::trial(random, OnTrial { editor, history: a_document, single: one_call }, seen)
 }
 
-/// Holds a document that owns its buffers against the plain book. The rooms it
-/// makes are its own; its answers must not show them.
-fn document(history: &History) -> Result<(), String> {
-    let lengths = history.lengths;
-    let limits =
-        duper::Limits { text: lengths.text, journal: lengths.journal, nodes: lengths.table / 12 };
-    let wrong = |number, what: String| Err(editing::told_to(history, number, &what));
-    let mut document = match duper::Document::read_with(&history.first[..], limits) {
-        Ok(document) => document,
-        Err(refusal) => return wrong(0, format!("the document: {refusal:?}")),
-    };
-    for (number, (call, page)) in history.calls.iter().enumerate() {
-        let answer = match call {
-            Call::Correct { node, replacement } => document.correct(*node, replacement),
-            Call::Undo => document.undo(),
-        };
-        let refusal = answer.err().map(|refusal| (refusal.number, refusal.place));
-        if refusal != page.refusal.map(|number| (number, 0)) {
-            return wrong(number, format!("document: {refusal:?}, book: {:?}", page.refusal));
-        }
-        let rows = &page.table[..page.nodes * 12];
-        if (document.text(), document.journal(), document.table())
-            != (&page.text[..], &page.journal[..], rows)
-        {
-            return wrong(number, "the document's text, journal or table is another".to_string());
-        }
+/// A document that may grow as far as buffers of these lengths let it.
+fn document(
+    text: &[u8],
+    journal: &[u8],
+    rooms: [usize; 3],
+) -> Result<duper::Document, duper::Refusal> {
+    let [text_room, journal_room, words] = rooms;
+    let limits = duper::Limits { text: text_room, journal: journal_room, nodes: words / 12 };
+    duper::Document::read_with_journal(text, journal, limits)
+}
+
+fn call_on(document: &mut duper::Document, call: &Call) -> Result<(), duper::Refusal> {
+    match call {
+        Call::Correct { node, replacement } => document.correct(*node, replacement),
+        Call::Undo => document.undo(),
+    }
+}
+
+/// Holds a document, which makes rooms of its own, against this refusal and
+/// these buffers; its answers must not show the rooms.
+fn holds(
+    document: &duper::Document,
+    answer: Result<(), duper::Refusal>,
+    refusal: Option<second::Refusal>,
+    [text, journal]: [&[u8]; 2],
+    rows: &[u32],
+) -> Result<(), String> {
+    let refused = answer.err().map(in_second);
+    if refused != refusal {
+        return Err(format!("a document answers {refused:?}, expected {refusal:?}"));
+    }
+    if (document.text(), document.journal(), document.table()) != (text, journal, rows) {
+        return Err("a document's text, journal or table is another".to_string());
     }
     Ok(())
+}
+
+/// Holds a document against the plain book.
+fn a_document(history: &History) -> Result<(), String> {
+    let lengths = history.lengths;
+    let wrong = |number, what: String| editing::told_to(history, number, &what);
+    let rooms = [lengths.text, lengths.journal, lengths.table];
+    let mut document = document(&history.first, &[], rooms)
+        .map_err(|refusal| wrong(0, format!("a document: {refusal}")))?;
+    for (number, (call, page)) in history.calls.iter().enumerate() {
+        let answer = call_on(&mut document, call);
+        let refusal = page.refusal.map(|number| second::Refusal { number, place: 0 });
+        let rows = &page.table[..page.nodes * 12];
+        holds(&document, answer, refusal, [&page.text, &page.journal], rows)
+            .map_err(|what| wrong(number, what))?;
+    }
+    Ok(())
+}
+
+/// Holds a document against a call on lent buffers, if the lengths in use are
+/// within these.
+fn one_call(
+    before: &Lent,
+    call: &Call,
+    after: &Lent,
+    answer: second::Answer,
+) -> Result<(), String> {
+    let Lent { text, used, journal, kept, table } = before;
+    let (Some(first), Some(entries)) = (text.get(..*used), journal.get(..*kept)) else {
+        return Ok(());
+    };
+    match document(first, entries, [text.len(), journal.len(), table.len()]) {
+        Ok(mut document) => {
+            let called = call_on(&mut document, call);
+            let rows = &after.table[..answer.nodes * 12];
+            let in_use = [&after.text[..answer.used], &after.journal[..answer.kept]];
+            holds(&document, called, answer.refusal, in_use, rows)
+        }
+        // What doesn't read makes no document.
+        Err(refusal) if answer.refusal == Some(in_second(refusal)) && refusal.number <= 10 => {
+            Ok(())
+        }
+        Err(refusal) => Err(format!("a document: {refusal}")),
+    }
 }

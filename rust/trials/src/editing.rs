@@ -17,6 +17,25 @@ const SINGLE: usize = 8;
 /// to its caller.
 pub type Editor = fn(&mut Lent, &Call) -> Answer;
 
+/// What is held against the book and `second`.
+#[derive(Debug, Clone, Copy)]
+pub struct OnTrial {
+    /// The calls.
+    pub editor: Editor,
+    /// Holds further calls against a history.
+    pub history: fn(&History) -> Result<(), String>,
+    /// Holds further calls against a single one: given are the buffers before
+    /// it and after it, and its answer.
+    pub single: fn(&Lent, &Call, &Lent, Answer) -> Result<(), String>,
+}
+
+impl OnTrial {
+    /// These calls and no further ones.
+    pub fn only(editor: Editor) -> OnTrial {
+        OnTrial { editor, history: |_| Ok(()), single: |_, _, _, _| Ok(()) }
+    }
+}
+
 /// How often each refusal came up, 0 standing for none.
 #[derive(Debug, Clone, Default, PartialEq, Eq)]
 pub struct Seen {
@@ -38,20 +57,16 @@ pub fn second(lent: &mut Lent, call: &Call) -> Answer {
 }
 
 /// Runs one history and some single calls; the error tells the first
-/// difference, and all that is needed to see it again. `further` is given each
-/// history to hold other calls against it.
-pub fn trial(
-    random: &mut Random,
-    editor: Editor,
-    further: impl FnOnce(&History) -> Result<(), String>,
-    seen: &mut Seen,
-) -> Result<(), String> {
+/// difference, and all that is needed to see it again.
+pub fn trial(random: &mut Random, on_trial: OnTrial, seen: &mut Seen) -> Result<(), String> {
     let history = history(random)?;
-    run(&history, editor, &mut seen.histories)?;
-    further(&history)?;
+    run(&history, on_trial.editor, &mut seen.histories)?;
+    (on_trial.history)(&history)?;
     for _ in 0..SINGLE {
         let (lent, call) = single(random);
-        let number = both(&mut lent.clone(), &mut lent.clone(), &call, editor)
+        let mut after = lent.clone();
+        let answer = both(&mut after, &mut lent.clone(), &call, on_trial.editor)
+            .and_then(|answer| (on_trial.single)(&lent, &call, &after, answer).map(|()| answer))
             .map_err(|what| {
                 let Lent { text, used, journal, kept, table } = &lent;
                 format!(
@@ -64,10 +79,8 @@ pub fn trial(
                     journal.escape_ascii(),
                     table.len()
                 )
-            })?
-            .refusal
-            .map_or(0, |refusal| refusal.number);
-        count(&mut seen.single, number);
+            })?;
+        count(&mut seen.single, answer);
     }
     Ok(())
 }
@@ -82,7 +95,7 @@ fn run(history: &History, editor: Editor, seen: &mut [u64; 21]) -> Result<(), St
             .and_then(|answer| as_the_book(&ours, answer, page).map(|()| answer))
             .and_then(|answer| cause(call, page).map(|()| answer))
             .map_err(|what| told_to(history, number, &what))?;
-        count(seen, answer.refusal.map_or(0, |refusal| refusal.number));
+        count(seen, answer);
     }
     // "Undoing all in force gives back the first text byte for byte."
     if ours.text.get(..ours.used) != Some(&history.first[..]) || ours.kept > 0 {
@@ -256,7 +269,8 @@ fn cause(call: &Call, page: &Page) -> Result<(), String> {
     }
 }
 
-fn count(seen: &mut [u64; 21], number: u32) {
+fn count(seen: &mut [u64; 21], answer: Answer) {
+    let number = answer.refusal.map_or(0, |refusal| refusal.number);
     if let Some(seen) = seen.get_mut(number as usize) {
         *seen += 1;
     }
@@ -299,7 +313,7 @@ mod tests {
         let mut seen = Seen::default();
         for number in 0..600 {
             let random = &mut Random::for_case(11, number);
-            if let Err(what) = trial(random, second, |_| Ok(()), &mut seen) {
+            if let Err(what) = trial(random, OnTrial::only(second), &mut seen) {
                 panic!("history {number}: {what}");
             }
         }
@@ -377,7 +391,7 @@ mod tests {
         for (name, editor) in editors {
             let found = (0..300).any(|number| {
                 let random = &mut Random::for_case(12, number);
-                trial(random, editor, |_| Ok(()), &mut Seen::default()).is_err()
+                trial(random, OnTrial::only(editor), &mut Seen::default()).is_err()
             });
             assert!(found, "{name}");
         }

@@ -9,7 +9,7 @@ use std::ops::Range;
 use std::process::ExitCode;
 use std::time::{Duration, Instant, SystemTime};
 
-use trials::editing::{self, Seen};
+use trials::editing::{self, OnTrial, Seen};
 use trials::random::Random;
 use trials::texts;
 
@@ -136,7 +136,7 @@ fn run_histories(options: &Options) -> Result<(), String> {
     for number in options.histories.clone() {
         let random = &mut Random::for_case(seed.rotate_left(32), number);
         let outcome = if options.alone {
-            editing::trial(random, editing::second, |_| Ok(()), &mut seen)
+            editing::trial(random, OnTrial::only(editing::second), &mut seen)
         } else {
             edits(random, &mut seen)
         };
