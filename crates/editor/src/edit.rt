@@ -1,7 +1,6 @@
 // Correction of one value, and undo, on lent buffers.
 ghost use mathlib.Core.Path.{_≡_};
-ghost use Prim.Native.Nat.{_<_};
-ghost use lib.ListN.{length, getD};
+ghost use lib.ListN.{length};
 ghost use Rattle.text.specs.Switches.{presentEdition};
 ghost use Rattle.editor.specs.Edit.{lentOf, Shows, decided, correctionRefusal, withCorrection, correct, undoRefusal, withUndo, undo};
 ghost use Rattle.editor.specs.Internal.{refusedWith, Opens, ReadNow, Within, replaceRefusal, withReplacement, LastIs};
@@ -11,6 +10,7 @@ use crate::journal::last_entry;
 use crate::journal::put_entry;
 use crate::trial::Tried;
 use crate::trial::try_text;
+use reader::keys::word;
 use reader::read::Reading;
 use reader::read::one_value;
 use reader::read::read_edition;
@@ -42,19 +42,6 @@ fn refusal(number: u8, nodes: usize, used: usize, kept: usize) -> Change
         used,
         kept,
     }
-}
-
-fn wide(x: u32) -> usize
-    ensures { λ r. ⌜ r ≡ x ⌝ }
-{
-    x as usize
-}
-
-fn word(table: &[u32], i: usize) -> usize
-    requires { ⌜ i < length (now table) ⌝ }
-    ensures { λ r. ⌜ r ≡ getD (now (table .entry)) i 0 ⌝ }
-{
-    wide(table[i])
 }
 
 // What every call begins with: the lengths in use are within their buffers, and the text in use is read into the table.

@@ -12,7 +12,8 @@ fn wide(x: u32) -> usize
     x as usize
 }
 
-fn word(table: &[u32], i: usize) -> usize
+// Word `i` of a table. Public for the crates above only.
+pub fn word(table: &[u32], i: usize) -> usize
     requires { ⌜ i < length (now table) ⌝ }
     ensures { λ r. ⌜ r ≡ getD (now (table .entry)) i 0 ⌝ }
 {
