@@ -11,6 +11,7 @@ pub mod UndoCallLaws
 pub mod BookLaws
 pub mod UndoLaws
 pub mod Demand3
+pub mod Shown
 pub mod Cause
 pub mod Computing
 pub mod Cases
