@@ -3,21 +3,17 @@
 use mathlib.Core.Path.{_≡_, refl, sym, ap, ap₂, _∙_, subst}
 use Prim.Native.Nat.{ℕ, _+_, _≤_, _<_, min}
 use native.Mathlib.Omega.{arith}
-use mathlib.Core.Bool.{Bool, true, false, not, cond, _||_, false≢true, true≢false}
+use mathlib.Core.Bool.{Bool, true, false, not, cond, _||_, false≢true}
 use mathlib.Core.List.{List, [], _∷_, _++_}
 use lib.Dec.{T, leb, ltb, eqb, ltb→lt}
 use lib.ListN.{length, length-append}
-use borrow.Author.Tests.{ltb-false, leb-false, eqb-true, le-ltb}
+use borrow.Author.Tests.{ltb-false, leb-false, eqb-true, le-ltb, not-false}
 use Rattle.text.specs.declared.switches.Switches.{Switches}
 use Rattle.reader.specs.Syntax.{Outcome, taken, refused}
 use Rattle.reader.specs.Reading.{reading, reads, isTaken, nodeCount, tableOf, oneValue, maxText}
 use Rattle.editor.specs.Edit.{Lent, Result, textOf, journalOf, answered, badLength, lengthRefused, corrected, entryOf, withText, overwritten, noRoom, correctionRefusal, withCorrection, decided, onceRead, correct}
 use Rattle.editor.specs.Book.{Correction, Room, Seen, bookText, bookJournal, bookRefusal, told, handedOn, seenOf}
 use Rattle.editor.proofs.SpliceLaws.{length-withText, take-withText, length-overwritten, take-overwritten}
-
-not-of-false : (b : Bool) → not b ≡ false → b ≡ true
-not-of-false true e = refl
-not-of-false false e = absurd (true≢false e)
 
 -- a chain of refusals that comes to 0: the first test failed, and so did the rest
 zero-cond : (b : Bool) (n x : ℕ) → T (ltb 0 n) → cond b n x ≡ 0 → (b ≡ false) × (x ≡ 0)
@@ -69,7 +65,7 @@ module _ (sw : Switches) where
         isNode = leb-false _ _ (e₁ .0);
         fits = ltb-false _ _ (e₃ .0);
         enters = ltb-false _ _ (e₄ .0);
-        reads′ = not-of-false _ (e₅ .0);
+        reads′ = not-false _ (e₅ .0);
       }
 
   -- what a call comes to, once the text reads

@@ -3,7 +3,7 @@
 use mathlib.Core.Path.{_≡_, refl, sym, ap, ap₂, _∙_, subst}
 use Prim.Native.Nat.{ℕ, _≤_}
 use native.Mathlib.Omega.{arith}
-use mathlib.Core.Bool.{Bool, true, false}
+use mathlib.Core.Bool.{true}
 use mathlib.Core.List.{List, [], _∷_, _++_}
 use lib.Dec.{T}
 use lib.ListN.{length, take, replicate}
@@ -12,6 +12,7 @@ use Rattle.text.specs.declared.switches.Switches.{Switches}
 use Rattle.reader.specs.Reading.{reading, reads, tableOf}
 use Rattle.editor.specs.Edit.{Lent, Result, textOf, journalOf, answered, decided, withUndo, undo}
 use Rattle.editor.specs.Book.{Correction, Call, correction, undoing, Room, Seen, bookText, bookJournal, told, bookAfter, bookNumber, inForce, book, handedOn, seenOf, called, calls, after, roomOf, Fresh, Demand3}
+use Rattle.text.proofs.Choice.{is-true}
 use Rattle.editor.proofs.ReadLaws.{reads-short}
 use Rattle.editor.proofs.BookLaws.{AllAccepted, Shared, Same, seen-told, correct-same}
 use Rattle.editor.proofs.UndoLaws.{undo-decided, undo-none, undo-some, withUndo-shared}
@@ -63,14 +64,10 @@ module _ (sw : Switches) (room : Room) (first : List ℕ) where
 
 -- ---- the start
 
-T-true : (b : Bool) → T b → b ≡ true
-T-true true t = refl
-T-true false t = absurd t
-
 fresh-shared : (sw : Switches) (words : ℕ) (b : Lent) → Fresh sw words b → Shared sw (roomOf words b) (textOf b) [] b
 unfolding roomOf textOf journalOf bookText bookJournal AllAccepted
 fresh-shared sw words b f =
-    let r : reads sw words (textOf b) ≡ true = T-true (reads sw words (textOf b)) (f .first-reads) in
+    let r : reads sw words (textOf b) ≡ true = is-true (reads sw words (textOf b)) (f .first-reads) in
     let s = reads-short sw words (textOf b) r in
     let w = f .within in
     let l : length (textOf b) ≡ b .used = length-take-le (b .used) (b .text) w in

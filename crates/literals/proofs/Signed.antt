@@ -4,6 +4,7 @@ use mathlib.Core.Path.{_≡_, refl, ap, _∙_}
 use Prim.Native.Nat.{ℕ, zero, suc, _-_, _<_}
 use native.Mathlib.Nat.{zero-add}
 use native.Mathlib.Omega.{arith}
+use borrow.Author.Tests.{le-ltb}
 use lib.IntN.{ℤ, pos, negsuc, negℤ, _-ℤ_, +ℤ-idl}
 use mir.Syntax.{w64}
 use mir.Val.{SFits, ofZ, toZ}
@@ -13,6 +14,10 @@ use mir.Facts.{toZ-ofZ, toZ-pos}
 below : (n : ℕ) → negsuc 0 -ℤ pos n ≡ negsuc n
 below zero = refl
 below (suc n) = ap (λ (k : ℕ). negsuc (suc k)) (zero-add n)
+
+-- -1 - z of a negative
+pub above : (n : ℕ) → negsuc 0 -ℤ negsuc n ≡ pos n
+above n = let e : suc n - 1 ≡ n = omega arith in rw (le-ltb (suc n) 1 (omega arith)) (ap pos e)
 
 -- the negative of m, by way of m - 1
 from-less : (m : ℕ) → 0 < m → negsuc (m - 1) ≡ negℤ (pos m)

@@ -9,15 +9,9 @@ use lib.Signed.{mag, ltZ, leZ}
 use mir.Syntax.{w64}
 use mir.Val.{SFits, ofZ, toZ}
 use mir.Facts.{toZ-ofZ}
+use Rattle.literals.proofs.Signed.{above}
 use borrow.Author.Tests.{le-ltb, ltb-true, leb-true}
 use Rattle.reader.specs.Tree.{twosComplement, plus1000}
-
--- -1 - z of a negative
-above : (n : ℕ) → negsuc 0 -ℤ negsuc n ≡ pos n
-above n =
-    let h : 1 ≤ suc n = omega arith in
-    let e : suc n - 1 ≡ n = omega arith in
-    rw (le-ltb (suc n) 1 h) (ap pos e)
 
 negative : (z : ℤ) → ltZ z (pos 0) ≡ true → z ≡ negsuc (mag z)
 negative (pos n) e = let h = ltb-true n 0 e in absurd (omega arith)

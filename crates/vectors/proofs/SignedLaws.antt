@@ -1,19 +1,17 @@
 -- A signed number below 0 printed by way of -1 - z, which never leaves its range.
 -- Assumes nothing.
-use mathlib.Core.Path.{_≡_, sym, ap, _∙_}
-use Prim.Native.Nat.{ℕ, suc, _+_, _-_, _<_}
+use mathlib.Core.Path.{_≡_, sym, _∙_}
+use Prim.Native.Nat.{ℕ, _+_, _<_}
 use native.Mathlib.Omega.{arith}
 use mathlib.Core.Bool.{true, false, false≢true}
 use lib.Dec.{T}
-use borrow.Author.Tests.{ltb-true, le-ltb}
+use borrow.Author.Tests.{ltb-true}
 use lib.IntN.{ℤ, pos, negsuc, natAbs, _-ℤ_}
 use lib.Signed.{ltZ, nonNeg}
 use mir.Syntax.{w64}
 use mir.Val.{Fits, SFits, ofZ, toZ}
 use mir.Facts.{toZ-ofZ}
-
-above : (n : ℕ) → negsuc 0 -ℤ negsuc n ≡ pos n
-above n = let e : suc n - 1 ≡ n = omega arith in rw (le-ltb (suc n) 1 (omega arith)) (ap pos e)
+use Rattle.literals.proofs.Signed.{above}
 
 module _ (z : ℤ) (f : SFits w64 z) where
   read : toZ w64 (ofZ w64 z) ≡ z
