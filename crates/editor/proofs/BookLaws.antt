@@ -135,7 +135,7 @@ module _ (sw : Switches) where
 
     chain-book : (cs : List Correction) (c : Correction)
         → bookRefusal sw room first cs c ≡ chain W c (text-of cs) (room .text) (length (journal-of cs) + length (entryOf sw W (c .node) (c .replacement) (text-of cs))) (room .journal)
-    unfolding bookRefusal chain bookText bookJournal
+    unfolding bookRefusal chain noRoom bookText bookJournal
     chain-book cs c =
         ap (λ (n : ℕ). chain W c (text-of cs) (room .text) n (room .journal)) (length-append (journal-of cs) (entryOf sw W (c .node) (c .replacement) (text-of cs)))
 

@@ -1,14 +1,14 @@
 -- The plain book of demand 3, and the claim about every list of calls.
 -- Assumes nothing.
-use Prim.Native.Nat.{ℕ, _≤_}
+use Prim.Native.Nat.{ℕ, _≤_, min}
 use mathlib.Core.Path.{_≡_}
 use mathlib.Core.Bool.{not, cond}
 use mathlib.Core.List.{List, [], _∷_, _++_}
 use lib.Dec.{T, leb, ltb, eqb}
 use lib.ListN.{length}
 use Rattle.text.specs.declared.switches.Switches.{Switches}
-use Rattle.reader.specs.Reading.{reading, reads, nodeCount, tableOf, oneValue}
-use Rattle.editor.specs.Edit.{Lent, lentOf, Answer, Result, textOf, journalOf, corrected, entryOf, noRoom, correct, undo}
+use Rattle.reader.specs.Reading.{reading, reads, nodeCount, tableOf, oneValue, maxText}
+use Rattle.editor.specs.Edit.{Lent, lentOf, Answer, Result, textOf, journalOf, corrected, entryOf, correct, undo}
 
 -- "each a node number and a replacement"
 pub record Correction : Type 0 where
@@ -52,7 +52,7 @@ module _ (sw : Switches) (room : Room) (first : List ℕ) where
   bookRefusal cs c =
       cond (leb (nodeCount (reading sw (room .words) (bookText cs))) (c .node)) 12
       (cond (not (oneValue sw (ltb 0 (c .node)) (c .replacement))) 13
-      (cond (noRoom (bookText (c ∷ cs)) (room .text)) 14
+      (cond (ltb (min (room .text) maxText) (length (bookText (c ∷ cs)))) 14
       (cond (ltb (room .journal) (length (bookJournal (c ∷ cs)))) 15
       (cond (not (reads sw (room .words) (bookText (c ∷ cs)))) 16
       0))))
