@@ -32,7 +32,7 @@ module _ (sw : Switches) (words : ℕ) where
   unfolding lengthRefused
   opened-long b refusal new = cond-both Long (badLength b) (λ _. length-replicate words 0) (λ _. once-long b (reading sw words (textOf b)) refusal new)
 
-  called-long : (b : Lent) (k : Call) → Long (called sw words b k)
+  pub called-long : (b : Lent) (k : Call) → Long (called sw words b k)
   unfolding called correct undo
   called-long b (correction c) = opened-long b _ _
   called-long b undoing = opened-long b _ _
