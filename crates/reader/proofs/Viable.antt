@@ -1,8 +1,8 @@
--- "7 is at the first token that no taken text could have there, limits and doubled keys apart": from every state that the machine
--- reaches without a refusal, some tokens lead to a taken end, if the limits leave room for one container more.
+-- From every state that the machine reaches without a refusal some bytes lead to a taken end, if the limits leave room for one container more: the
+-- brackets that close what is open, and before them a colon or an empty array where a value is due. FirstFault says what follows of texts.
 -- Assumes nothing.
 use mathlib.Core.Path.{_≡_, refl, sym, ap, _∙_, subst}
-use Prim.Native.Nat.{ℕ, _<_}
+use Prim.Native.Nat.{ℕ, suc, _+_, _<_}
 use mathlib.Core.Bool.{Bool, true, false, cond, _&&_}
 use mathlib.Core.Option.{Option, none, some}
 use mathlib.Core.List.{List, [], _∷_}
@@ -11,8 +11,11 @@ use lib.ListN.{length}
 use borrow.Author.Tests.{lt-leb}
 use Prim.Native.Char.{Char, code}
 use Rattle.text.specs.declared.switches.Switches.{Switches}
+use Rattle.text.specs.Bytes.{Class, classOf, oneOf, isNumberByte, isWordByte, isLetterOrDigit}
 use Rattle.lexer.specs.Token as L
-use Rattle.lexer.specs.Token.{Token, Tokens}
+use Rattle.lexer.specs.Token.{Token, Tokens, itemOf, item, afterItem, cut}
+use Rattle.lexer.proofs.LocalLaws.{heads, goesOn}
+use Rattle.lexer.proofs.SeamLaws.{cutToken}
 use Rattle.text.proofs.Choice.{cond-both}
 use Rattle.reader.specs.Tree.{Span, Tree, leaf, branch, nil, snoc}
 use Rattle.reader.specs.declared.tree.Kind.{Kind}
@@ -21,20 +24,33 @@ use Rattle.reader.specs.declared.tree.Limits.{Limits}
 use Rattle.reader.specs.Syntax.{Label, Frame, Slot, first, lone, after, more, Mode, value, named, inner, close, inside, colon, done, Config, config, frame, label, Step, go, refuse, Begins, container, scalar, identifier, nothing, spanOf, isMark, closer, isObject, isComma, emptyByComma, keyOf, markBegins, begins, headBy, withStop, finished, ended, goTo, refuseIf, holds, keyStep, closeOr, noNode, counted, valueStep, freshValue, childStep, slotStep, modeStep, step, Outcome, atEnd, afterStep, run}
 use Rattle.reader.specs.Reading.{isTaken}
 
--- ---- the tokens that close what is open
+-- ---- the bytes that close what is open
 
--- a bracket or mark; places do not matter here
-abbrev markToken : Char → Token
-markToken c = record { form = L.mark (code c); start = 0; stop = 0 }
+-- a bracket or mark at a place
+abbrev markToken : (at : ℕ) → Char → Token
+markToken at c = cutToken (L.mark (code c)) at 0
 
 -- the bracket of an identifier, if there is one, and then `rest`
-closeName : Option Span → Tokens → Tokens
+closeName : Option Span → List ℕ → List ℕ
 closeName none rest = rest
-closeName (some s) rest = L.next (markToken ")") rest
+closeName (some s) rest = code ")" ∷ rest
 
-closeAll : List Frame → Tokens
-closeAll [] = L.end 0
-closeAll (f ∷ fs) = L.next (markToken (closer (f .kind))) (closeName (f .label .name) (closeAll fs))
+closeAll : List Frame → List ℕ
+closeAll [] = []
+closeAll (f ∷ fs) = code (closer (f .kind)) ∷ closeName (f .label .name) (closeAll fs)
+
+closer-class : (k : Kind) → classOf (code (closer k)) ≡ Class.mark
+unfolding classOf oneOf
+closer-class Object = refl
+closer-class Array = refl
+closer-class Tuple = refl
+
+-- no word or number goes on with a closing bracket
+closer-ends : (k : Kind) → goesOn (code (closer k)) ≡ false
+unfolding goesOn isNumberByte isWordByte isLetterOrDigit
+closer-ends Object = refl
+closer-ends Array = refl
+closer-ends Tuple = refl
 
 is-closer : (k : Kind) → isMark (closer k) (L.mark (code (closer k))) ≡ true
 unfolding isMark
@@ -85,98 +101,127 @@ named-ok (f ∷ fs) any l = (tt, tt)
 
 module _ (sw : Switches) (limits : Limits) where
   -- a container closes: whatever its slot, its children and its keys
-  close-step : (f : Frame) (fs : List Frame) (slot : Slot) (n : ℕ)
-      → step sw limits (config (f ∷ fs) (inside slot) n) (markToken (closer (f .kind)))
-      ≡ go (ended fs n (f .label .name) (branch (headBy (f .label) 0) (f .kind) (f .children)))
+  close-step : (at : ℕ) (f : Frame) (fs : List Frame) (slot : Slot) (n : ℕ)
+      → step sw limits (config (f ∷ fs) (inside slot) n) (markToken at (closer (f .kind)))
+      ≡ go (ended fs n (f .label .name) (branch (headBy (f .label) (at + 1)) (f .kind) (f .children)))
   unfolding step modeStep slotStep
-  close-step f fs first n = close-or (config (f ∷ fs) (inside first) n) f fs (markToken (closer (f .kind))) _ (is-closer (f .kind))
-  close-step f fs lone n = close-or (config (f ∷ fs) (inside lone) n) f fs (markToken (closer (f .kind))) _ (is-closer (f .kind))
-  close-step f fs after n = close-or (config (f ∷ fs) (inside after) n) f fs (markToken (closer (f .kind))) _ (is-closer (f .kind))
-  close-step f fs more n = close-or (config (f ∷ fs) (inside more) n) f fs (markToken (closer (f .kind))) _ (is-closer (f .kind))
+  close-step at f fs first n = close-or (config (f ∷ fs) (inside first) n) f fs (markToken at (closer (f .kind))) _ (is-closer (f .kind))
+  close-step at f fs lone n = close-or (config (f ∷ fs) (inside lone) n) f fs (markToken at (closer (f .kind))) _ (is-closer (f .kind))
+  close-step at f fs after n = close-or (config (f ∷ fs) (inside after) n) f fs (markToken at (closer (f .kind))) _ (is-closer (f .kind))
+  close-step at f fs more n = close-or (config (f ∷ fs) (inside more) n) f fs (markToken at (closer (f .kind))) _ (is-closer (f .kind))
 
-  run-next : (t : Token) (ts : Tokens) (c d : Config) → step sw limits c t ≡ go d → Taken (run sw limits ts d) → Taken (run sw limits (L.next t ts) c)
-  unfolding run afterStep Taken
-  run-next t ts c d e h = ap isTaken (ap (λ (x : Step). afterStep (t .start) x (λ g. run sw limits ts g)) e) ∙ h
+  -- what the bytes come to from a state, wherever they stand
+  abbrev Leads : List ℕ → Config → Type 0
+  Leads bytes c = (at : ℕ) → Taken (run sw limits (cut sw 0 at bytes) c)
+
+  run-mark : (m : Char) (rest : List ℕ) (c : Config) (d : ℕ → Config) → classOf (code m) ≡ Class.mark
+      → ((at : ℕ) → step sw limits c (markToken at m) ≡ go (d at)) → ((at : ℕ) → Leads rest (d at)) → Leads (code m ∷ rest) c
+  unfolding run afterStep Taken cut afterItem item itemOf
+  run-mark m rest c d k e h at =
+      ap (λ (x : Class). isTaken (run sw limits (afterItem at (itemOf sw x (code m) rest) (λ n. cut sw n (suc at) rest)) c)) k
+      ∙ ap (λ (x : Step). isTaken (afterStep at x (λ g. run sw limits (cut sw 0 (suc at) rest) g))) (e at) ∙ h at (suc at)
 
   -- the bracket of an identifier closes
-  name-close : (fs : List Frame) (o : Option Span) (n : ℕ) (t : Tree) (ts : Tokens) → ((u : Tree) → Taken (run sw limits ts (finished fs n u)))
-      → Taken (run sw limits (closeName o ts) (ended fs n o t))
-  unfolding closeName ended step modeStep isMark
-  name-close fs none n t ts k = k t
-  name-close fs (some s) n t ts k =
-      run-next (markToken ")") ts (config fs (close t) n) (finished fs n (withStop 0 t)) refl (k (withStop 0 t))
+  name-close : (fs : List Frame) (o : Option Span) (n : ℕ) (t : Tree) (rest : List ℕ) → ((u : Tree) → Leads rest (finished fs n u))
+      → Leads (closeName o rest) (ended fs n o t)
+  unfolding closeName ended step modeStep isMark classOf oneOf
+  name-close fs none n t rest k = k t
+  name-close fs (some s) n t rest k =
+      run-mark ")" rest (config fs (close t) n) (λ at. finished fs n (withStop (at + 1) t)) refl (λ at. refl) (λ at. k (withStop (at + 1) t))
 
   -- a value is whole, and every open container closes
-  finish-close : (fs : List Frame) (n : ℕ) (u : Tree) → Taken (run sw limits (closeAll fs) (finished fs n u))
-  unfolding closeAll finished Taken isTaken run atEnd
-  finish-close [] n u = refl
+  finish-close : (fs : List Frame) (n : ℕ) (u : Tree) → Leads (closeAll fs) (finished fs n u)
+  unfolding closeAll finished Taken isTaken run atEnd cut
+  finish-close [] n u = λ at. refl
   finish-close (g ∷ gs) n u =
       let f : Frame = frame (g .kind) (g .label) (snoc (g .children) u) (g .keys) in
-      let t : Tree = branch (headBy (f .label) 0) (f .kind) (f .children) in
-      run-next (markToken (closer (g .kind))) (closeName (g .label .name) (closeAll gs)) (config (f ∷ gs) (inside after) n)
-      (ended gs n (f .label .name) t) (close-step f gs after n)
-      (name-close gs (g .label .name) n t (closeAll gs) (λ v. finish-close gs n v))
+      let t : ℕ → Tree = λ at. branch (headBy (f .label) (at + 1)) (f .kind) (f .children) in
+      run-mark (closer (g .kind)) (closeName (g .label .name) (closeAll gs)) (config (f ∷ gs) (inside after) n)
+      (λ at. ended gs n (f .label .name) (t at)) (closer-class (g .kind)) (λ at. close-step at f gs after n)
+      (λ at. name-close gs (g .label .name) n (t at) (closeAll gs) (λ v. finish-close gs n v))
 
-  all-close : (f : Frame) (fs : List Frame) (slot : Slot) (n : ℕ) → Taken (run sw limits (closeAll (f ∷ fs)) (config (f ∷ fs) (inside slot) n))
+  all-close : (f : Frame) (fs : List Frame) (slot : Slot) (n : ℕ) → Leads (closeAll (f ∷ fs)) (config (f ∷ fs) (inside slot) n)
   unfolding closeAll
   all-close f fs slot n =
-      let t : Tree = branch (headBy (f .label) 0) (f .kind) (f .children) in
-      run-next (markToken (closer (f .kind))) (closeName (f .label .name) (closeAll fs)) (config (f ∷ fs) (inside slot) n)
-      (ended fs n (f .label .name) t) (close-step f fs slot n) (name-close fs (f .label .name) n t (closeAll fs) (λ v. finish-close fs n v))
+      let t : ℕ → Tree = λ at. branch (headBy (f .label) (at + 1)) (f .kind) (f .children) in
+      run-mark (closer (f .kind)) (closeName (f .label .name) (closeAll fs)) (config (f ∷ fs) (inside slot) n)
+      (λ at. ended fs n (f .label .name) (t at)) (closer-class (f .kind)) (λ at. close-step at f fs slot n)
+      (λ at. name-close fs (f .label .name) n (t at) (closeAll fs) (λ v. finish-close fs n v))
 
   -- ---- from every state
 
   -- `[`, where a value is due and the limits leave room
-  open-step : (c : Config) (fresh any : Bool) (l : Label) → length (c .stack) < limits .depth → c .nodes < limits .nodes
-      → valueStep limits c fresh any l (markToken "[") (begins (spanOf (markToken "[")) (L.mark (code "[")))
+  open-step : (at : ℕ) (c : Config) (fresh any : Bool) (l : Label) → length (c .stack) < limits .depth → c .nodes < limits .nodes
+      → valueStep limits c fresh any l (markToken at "[") (begins (spanOf (markToken at "[")) (L.mark (code "[")))
       ≡ go (config (frame Array l nil [] ∷ c .stack) (inside first) (counted limits fresh c))
   unfolding valueStep begins markBegins noNode refuseIf
-  open-step c true any l d n =
+  open-step at c true any l d n =
       ap (λ (x : Bool). refuseIf x 9 (refuseIf (leb (limits .nodes) (c .nodes)) 10 (go (config (frame Array l nil [] ∷ c .stack) (inside first) (counted limits true c))))) (lt-leb (limits .depth) (length (c .stack)) d)
       ∙ ap (λ (x : Bool). refuseIf x 10 (go (config (frame Array l nil [] ∷ c .stack) (inside first) (counted limits true c)))) (lt-leb (limits .nodes) (c .nodes) n)
-  open-step c false any l d n =
+  open-step at c false any l d n =
       ap (λ (x : Bool). refuseIf x 9 (go (config (frame Array l nil [] ∷ c .stack) (inside first) (counted limits false c)))) (lt-leb (limits .depth) (length (c .stack)) d)
 
-  abbrev pub Viable : Config → Type 0
-  Viable c = (ts : Tokens) × Taken (run sw limits ts c)
+  -- some bytes lead from the state to a taken end, and no word or number goes on with the first of them
+  pub record Viable (c : Config) : Type 0 where
+    pub bytes : List ℕ
+    pub ends : heads goesOn bytes ≡ false
+    pub leads : Leads bytes c
 
   value-viable : (fs : List Frame) (n : ℕ) (any : Bool) (key : Option Span) → length fs < limits .depth → n < limits .nodes → Viable (config fs (value any key) n)
-  unfolding step modeStep freshValue
+  unfolding step modeStep freshValue classOf oneOf closeAll closeName heads goesOn isNumberByte isWordByte isLetterOrDigit
   value-viable fs n any key d k =
       let c : Config = config fs (value any key) n in
-      let f : Frame = frame Array (label 0 key none) nil [] in (
-        L.next (markToken "[") (closeAll (f ∷ fs)),
-        run-next (markToken "[") (closeAll (f ∷ fs)) c (config (f ∷ fs) (inside first) (counted limits true c))
-            (open-step c true any (label 0 key none) d k) (all-close f fs first (counted limits true c)),
-      )
+      let f : ℕ → Frame = λ at. frame Array (label at key none) nil [] in
+      record {
+        bytes = code "[" ∷ code "]" ∷ closeAll fs;
+        ends = refl;
+        leads =
+            run-mark "[" (closeAll (f 0 ∷ fs)) c (λ at. config (f at ∷ fs) (inside first) (counted limits true c)) refl
+            (λ at. open-step at c true any (label at key none) d k) (λ at. all-close (f at) fs first (counted limits true c));
+      }
 
   inner-viable : (fs : List Frame) (n : ℕ) (any : Bool) (l : Label) → length fs < limits .depth → n < limits .nodes → Viable (config fs (inner any l) n)
-  unfolding step modeStep
+  unfolding step modeStep classOf oneOf heads goesOn isNumberByte isWordByte isLetterOrDigit
   inner-viable fs n any l d k =
       let c : Config = config fs (inner any l) n in
-      let f : Frame = frame Array l nil [] in (
-        L.next (markToken "[") (closeAll (f ∷ fs)),
-        run-next (markToken "[") (closeAll (f ∷ fs)) c (config (f ∷ fs) (inside first) (counted limits false c))
-            (open-step c false any l d k) (all-close f fs first (counted limits false c)),
-      )
+      let f : Frame = frame Array l nil [] in
+      record {
+        bytes = code "[" ∷ closeAll (f ∷ fs);
+        ends = refl;
+        leads =
+            run-mark "[" (closeAll (f ∷ fs)) c (λ at. config (f ∷ fs) (inside first) (counted limits false c)) refl
+            (λ at. open-step at c false any l d k) (λ at. all-close f fs first (counted limits false c));
+      }
 
   pub viable : (fs : List Frame) (m : Mode) (n : ℕ) → Ok fs m → length fs < limits .depth → n < limits .nodes → Viable (config fs m n)
-  unfolding Ok step modeStep isMark Taken isTaken run atEnd
+  unfolding Ok step modeStep isMark Taken isTaken run atEnd cut classOf oneOf heads goesOn isNumberByte isWordByte isLetterOrDigit closeAll
   viable fs (value any key) n o d k = value-viable fs n any key d k
   viable fs (named any l) n o d k =
       let w = inner-viable fs n any l d k in
-      (L.next (markToken "(") (w .0), run-next (markToken "(") (w .0) (config fs (named any l) n) (config fs (inner any l) n) refl (w .1))
+      record {
+        bytes = code "(" ∷ w .bytes;
+        ends = refl;
+        leads = run-mark "(" (w .bytes) (config fs (named any l) n) (λ at. config fs (inner any l) n) refl (λ at. refl) (λ at. w .leads);
+      }
   viable fs (inner any l) n o d k = inner-viable fs n any l d k
-  viable fs (close t) n o d k = (
-    L.next (markToken ")") (closeAll fs),
-    run-next (markToken ")") (closeAll fs) (config fs (close t) n) (finished fs n (withStop 0 t)) refl (finish-close fs n (withStop 0 t)),
-  )
+  viable fs (close t) n o d k =
+      record {
+        bytes = code ")" ∷ closeAll fs;
+        ends = refl;
+        leads =
+            run-mark ")" (closeAll fs) (config fs (close t) n) (λ at. finished fs n (withStop (at + 1) t)) refl (λ at. refl)
+            (λ at. finish-close fs n (withStop (at + 1) t));
+      }
   viable [] (inside slot) n o d k = absurd o
-  viable (f ∷ fs) (inside slot) n o d k = (closeAll (f ∷ fs), all-close f fs slot n)
+  viable (f ∷ fs) (inside slot) n o d k = record { bytes = closeAll (f ∷ fs); ends = closer-ends (f .kind); leads = all-close f fs slot n }
   viable fs (colon key) n o d k =
       let w = value-viable fs n true (some key) d k in
-      (L.next (markToken ":") (w .0), run-next (markToken ":") (w .0) (config fs (colon key) n) (config fs (value true (some key)) n) refl (w .1))
-  viable fs (done t) n o d k = (L.end 0, refl)
+      record {
+        bytes = code ":" ∷ w .bytes;
+        ends = refl;
+        leads = run-mark ":" (w .bytes) (config fs (colon key) n) (λ at. config fs (value true (some key)) n) refl (λ at. refl) (λ at. w .leads);
+      }
+  viable fs (done t) n o d k = record { bytes = []; ends = refl; leads = λ at. refl }
 
   -- ---- the states that the machine reaches
 
@@ -230,8 +275,10 @@ module _ (sw : Switches) (limits : Limits) where
       value-mode (f ∷ fs) = tt
   mode-ok c t (done tree) = tt
 
-  -- after any token that is not refused, some tokens lead to a taken end
-  pub step-viable : (c d : Config) (t : Token) → step sw limits c t ≡ go d → length (d .stack) < limits .depth → d .nodes < limits .nodes → Viable d
+  pub step-ok : (c d : Config) (t : Token) → step sw limits c t ≡ go d → Ok (d .stack) (d .mode)
   unfolding step OkStep
-  step-viable c d t e h k =
-      viable (d .stack) (d .mode) (d .nodes) (subst OkStep e (mode-ok c t (c .mode))) h k
+  step-ok c d t e = subst OkStep e (mode-ok c t (c .mode))
+
+  -- after any token that is not refused, some bytes lead to a taken end
+  pub step-viable : (c d : Config) (t : Token) → step sw limits c t ≡ go d → length (d .stack) < limits .depth → d .nodes < limits .nodes → Viable d
+  step-viable c d t e h k = viable (d .stack) (d .mode) (d .nodes) (step-ok c d t e) h k
