@@ -5,6 +5,7 @@ pub mod TableLaws
 pub mod SpanLaws
 pub mod SizeLaws
 pub mod Viable
+pub mod RoomLaws
 pub mod PathLaws
 pub mod LimitLaws
 pub mod FrameLaws
