@@ -6,6 +6,7 @@ pub mod SpanLaws
 pub mod SizeLaws
 pub mod Viable
 pub mod RoomLaws
+pub mod FirstFault
 pub mod PathLaws
 pub mod LimitLaws
 pub mod FrameLaws

@@ -64,11 +64,11 @@ unfolding closeOr
 close-or c f fs t other e =
     ap (λ (x : Bool). cond x (go (ended fs (c .nodes) (f .label .name) (branch (headBy (f .label) (t .stop)) (f .kind) (f .children)))) other) e
 
-pub Taken : Outcome → Type 0
+unfoldable pub Taken : Outcome → Type 0
 Taken o = isTaken o ≡ true
 
 -- inside a container there is one; the machine keeps that
-pub Ok : List Frame → Mode → Type 0
+unfoldable pub Ok : List Frame → Mode → Type 0
 Ok [] (inside slot) = ⊥
 Ok [] (value any key) = Unit {0}
 Ok [] (named any l) = Unit {0}
