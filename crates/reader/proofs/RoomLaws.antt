@@ -16,7 +16,7 @@ use Rattle.lexer.specs.Token.{Token, Tokens}
 use Rattle.lexer.proofs.ItemLaws.{leads}
 use Rattle.reader.specs.Tree.{Span}
 use Rattle.reader.specs.declared.tree.Limits.{Limits}
-use Rattle.reader.specs.Syntax.{Label, Frame, Slot, first, lone, after, more, Mode, value, named, inner, close, inside, colon, done, Config, label, Step, go, refuse, Begins, container, scalar, identifier, nothing, spanOf, isMark, closer, isObject, isComma, emptyByComma, keyOf, begins, refuseIf, holds, keyStep, closeOr, noNode, counted, valueStep, freshValue, childStep, slotStep, modeStep, step, Outcome, refused, afterStep, run}
+use Rattle.reader.specs.Syntax.{Label, Frame, Slot, first, lone, after, more, Mode, value, named, inner, close, inside, colon, done, Config, label, Step, go, refuse, Begins, container, scalar, identifier, nothing, spanOf, isMark, closer, isObject, isComma, emptyByComma, keyOf, begins, refuseIf, holds, keyStep, closeOr, noNode, counted, valueStep, freshValue, childStep, slotStep, modeStep, step, Outcome, refused, atEnd, afterStep, run}
 use Rattle.reader.proofs.LimitLaws.{Limit, deep, many}
 
 -- the second limits are not below the first
@@ -249,3 +249,10 @@ refused-anyway sw l l′ {d = d} u n rest p e h =
     over-down sw l′ (plus l l′) down (L.next u rest) (over-up sw l (plus l l′) up p)
     (refuse-down n (u .start) (λ g. run sw l′ rest g) (step-freer sw l′ (plus l l′) down d u)
     (refuse-up n (step-freer sw l (plus l l′) up d u) e h))
+
+-- the same where the text ends
+pub ended-anyway : (sw : Switches) (l l′ : Limits) {c d : Config} {ts : List Token} {o : Outcome} (place : ℕ) → Over sw l c ts d
+    → atEnd place (d .mode) ≡ o → Apart o (run sw l′ (leads ts (L.end place)) c)
+unfolding run
+ended-anyway sw l l′ {o = o} place p e =
+    over-down sw l′ (plus l l′) (plus-right l l′) (L.end place) (over-up sw l (plus l l′) (plus-left l l′) p) (subst (λ (x : Outcome). Apart o x) (sym e) is)
