@@ -24,7 +24,7 @@ unfoldable pub leads : List Token → Tokens → Tokens
 leads [] r = r
 leads (t ∷ ts) r = next t (leads ts r)
 
-leads-append : (ts us : List Token) (r : Tokens) → leads (ts ++ us) r ≡ leads ts (leads us r)
+pub leads-append : (ts us : List Token) (r : Tokens) → leads (ts ++ us) r ≡ leads ts (leads us r)
 unfolding leads
 leads-append [] us r = refl
 leads-append (t ∷ ts) us r = ap (next t) (leads-append ts us r)

@@ -7,8 +7,10 @@ pub mod NextLaws
 pub mod LocalLaws
 pub mod FaultLaws
 pub mod FirstLaws
+pub mod LastLaws
 pub mod SeamLaws
 pub mod WalkLaws
 pub mod ItemLaws
+pub mod FrontLaws
 pub mod AloneLaws
 pub mod PartLaws

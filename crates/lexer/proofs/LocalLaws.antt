@@ -292,7 +292,7 @@ module _ (escapes : Bool) (k : ℕ) where
       cond-count closingBytes (suc n) (is "\"" b) (afterQuote escapes k 0 (suc n)) (cond (is "\\" b && escapes) (C.Escaped (suc n)) (C.Inside (suc n)))
       (quote-count 0 (suc n)) (cond-count closingBytes (suc n) (is "\\" b && escapes) (C.Escaped (suc n)) (C.Inside (suc n)) refl refl)
 
-  close-goes : (st : Closing) (b : ℕ) → isClosed st ≡ false → closingBytes (closingStep escapes k st b) ≡ suc (closingBytes st)
+  pub close-goes : (st : Closing) (b : ℕ) → isClosed st ≡ false → closingBytes (closingStep escapes k st b) ≡ suc (closingBytes st)
   unfolding isClosed closingStep closingBytes
   close-goes (C.Inside n) b e = other-count n b
   close-goes (C.Escaped n) b e = refl
