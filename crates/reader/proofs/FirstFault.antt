@@ -1,75 +1,26 @@
 -- "7 is at the first token that no taken text could have there, limits and doubled keys apart" (document 01, "Numbers of refusal").
 -- Assumes nothing.
 use mathlib.Core.Path.{_≡_, refl, sym, ap, _∙_, subst}
-use Prim.Native.Nat.{ℕ, suc, _+_, _≤_}
+use Prim.Native.Nat.{ℕ, suc}
 use native.Mathlib.Omega.{arith}
-use mathlib.Core.Bool.{Bool, true, false, false≢true}
-use mathlib.Core.List.{List, [], _∷_, _++_, append-assoc}
-use lib.ListN.{length, length-append, take}
-use lib.Seq.{take-at}
+use mathlib.Core.Bool.{Bool, true, false≢true}
+use mathlib.Core.List.{List, [], _∷_, _++_}
+use lib.ListN.{length, take}
 use Rattle.text.specs.declared.switches.Switches.{Switches}
+use Rattle.text.specs.Utf8.{utf8, isWhole}
+use Rattle.text.proofs.Utf8Join.{utf8-append}
 use Rattle.lexer.specs.Token as L
-use Rattle.lexer.specs.Token.{Form, Token, Tokens, cut, tokens}
-use Rattle.lexer.proofs.LocalLaws.{heads, goesOn, form-ends}
+use Rattle.lexer.specs.Token.{Token, Tokens, cut, tokens}
 use Rattle.lexer.proofs.TokenLaws.{Within, tokens-within}
 use Rattle.lexer.proofs.FaultLaws.{TokensFault, tokens-fault}
-use Rattle.lexer.proofs.SeamLaws.{cutToken}
-use Rattle.lexer.proofs.WalkLaws.{here, past, took, Follows, walk-before, place-on}
-use Rattle.lexer.proofs.ItemLaws.{Adds, Items, leads, items-cut, cut-behind}
+use Rattle.lexer.proofs.ItemLaws.{leads, leads-append}
+use Rattle.lexer.proofs.FrontLaws.{endOf, front-tokens, front-whole}
 use Rattle.reader.specs.declared.tree.Limits.{Limits}
 use Rattle.reader.specs.Syntax.{Mode, value, named, inner, close, inside, colon, done, Config, Step, go, refuse, step, Outcome, taken, refused, atEnd, afterStep, run, before}
 use Rattle.reader.specs.Reading.{isTaken}
 use Rattle.reader.proofs.LimitLaws.{Limit}
 use Rattle.reader.proofs.Viable.{Taken, Ok, Viable, viable, step-ok}
 use Rattle.reader.proofs.RoomLaws.{Roomier, plus, plus-left, Over, stays, goes, over-more, over-run, over-up, Apart, is, by-limit, Rule, disallowed, doubled, rule-or-limit, ByRule, step-rule, refused-anyway, ended-anyway}
-
--- ---- a text up to the end of some of its first tokens
-
--- where the last of the tokens ends, or `from` if there is none
-unfoldable pub endOf : (from : ℕ) → List Token → ℕ
-endOf from [] = from
-endOf from (t ∷ ts) = endOf (t .stop) ts
-
-pub end-last : (from : ℕ) (ts : List Token) (u : Token) → endOf from (ts ++ (u ∷ [])) ≡ u .stop
-unfolding endOf
-end-last from [] u = refl
-end-last from (t ∷ ts) u = end-last (t .stop) ts u
-
--- the text's bytes up to the end of the tokens ts; before other bytes that no word or number goes on with they have these tokens too
-record UpTo (sw : Switches) (from : ℕ) (s : List ℕ) (ts : List Token) : Type 0 where
-  pre : List ℕ
-  rest : List ℕ
-  joined : pre ++ rest ≡ s
-  place : from + length pre ≡ endOf from ts
-  before-any : (y : List ℕ) → heads goesOn y ≡ false → Items sw from pre y ts
-
-up-to : (sw : Switches) (from : ℕ) {pre z : List ℕ} {ts : List Token} → Items sw from pre z ts → UpTo sw from (pre ++ z) ts
-unfolding endOf Follows
-up-to sw from (here {z = z}) = record { pre = []; rest = z; joined = refl; place = omega arith; before-any = λ y h. here }
-up-to sw from (past pre b x {z = z} {s = ts} p e) =
-    subst (λ (l : List ℕ). UpTo sw from l ts) (sym (append-assoc pre (b ∷ x) z)) (up-to sw from p)
-up-to sw from (took pre b x form {z = z} {s = ts} {t = us} p e m) =
-    let u : Token = cutToken form (from + length pre) (length x) in
-    record {
-      pre = pre ++ (b ∷ x);
-      rest = z;
-      joined = refl;
-      place = sym (place-on sw Adds from [] pre b x) ∙ sym (ap (endOf from) m ∙ end-last from ts u);
-      before-any = λ y h. walk-before sw Adds from [] (took pre b x form p e m) y (form-ends form z y h);
-    }
-
-module _ (sw : Switches) where
-  -- the tokens of the text's bytes up to there, with other bytes behind them
-  pub front-tokens : (s : List ℕ) (ts : List Token) (r : Tokens) → tokens sw s ≡ leads ts r → (y : List ℕ) → heads goesOn y ≡ false
-      → tokens sw (take (endOf 0 ts) s ++ y) ≡ leads ts (cut sw 0 (endOf 0 ts) y)
-  unfolding tokens
-  front-tokens s ts r e y h =
-      let w = cut-behind sw 0 s ts r e in
-      let v = up-to sw 0 (w .items) in
-      let j : v .pre ++ v .rest ≡ s = v .joined ∙ w .joined in
-      let p : length (v .pre) ≡ endOf 0 ts = let q = v .place in omega arith in
-      let t : take (endOf 0 ts) s ≡ v .pre = ap (take (endOf 0 ts)) (sym j) ∙ take-at (v .pre) (v .rest) (endOf 0 ts) p in
-      ap (λ (l : List ℕ). cut sw 0 0 (l ++ y)) t ∙ items-cut sw 0 (v .before-any y h) ∙ ap (λ (n : ℕ). leads ts (cut sw 0 n y)) (v .place)
 
 -- ---- what a taken text could have
 
@@ -79,6 +30,7 @@ pub record Could (sw : Switches) (any : Bool) (ts : List Token) : Type 0 where
   pub limits : Limits
   pub rest : Tokens
   pub has : tokens sw text ≡ leads ts rest
+  pub whole : isWhole (utf8 text) ≡ true
   pub is-taken : Taken (run sw limits (tokens sw text) (before any))
 
 -- and it begins with the bytes of s up to the end of these tokens
@@ -93,8 +45,7 @@ over-ok sw l o (goes {c = c} {d = d} {t = t} e p) = over-ok sw l (step-ok sw l c
 
 leads-last : (ts : List Token) (u : Token) (r : Tokens) → leads (ts ++ (u ∷ [])) r ≡ leads ts (L.next u r)
 unfolding leads
-leads-last [] u r = refl
-leads-last (t ∷ ts) u r = ap (L.next t) (leads-last ts u r)
+leads-last ts u r = leads-append ts (u ∷ []) r
 
 not-taken : {n place : ℕ} {o : Outcome} → Apart (refused n place) o → Taken o → ⊥
 unfolding Taken isTaken
@@ -107,10 +58,10 @@ room d = record { depth = suc (length (d .stack)); nodes = suc (d .nodes) }
 
 module _ (sw : Switches) (any : Bool) where
   -- NEVER LATE: as long as no token is refused, some text that begins so is taken
-  pub never-late : (l : Limits) (s : List ℕ) (ts : List Token) (r : Tokens) (d : Config) → tokens sw s ≡ leads ts r → Over sw l (before any) ts d
-      → Completed sw any s ts
+  pub never-late : (l : Limits) (s : List ℕ) (ts : List Token) (r : Tokens) (d : Config) → isWhole (utf8 s) ≡ true → tokens sw s ≡ leads ts r
+      → Over sw l (before any) ts d → Completed sw any s ts
   unfolding Ok before
-  never-late l s ts r d e p =
+  never-late l s ts r d h e p =
       let l′ : Limits = plus l (room d) in
       let w : Viable sw l′ d = viable sw l′ (d .stack) (d .mode) (d .nodes) (over-ok sw l tt p) (omega arith) (omega arith) in
       let f = front-tokens sw s ts r e (w .bytes) (w .ends) in
@@ -123,7 +74,8 @@ module _ (sw : Switches) (any : Bool) where
               limits = l′;
               rest = cut sw 0 (endOf 0 ts) (w .bytes);
               has = f;
-              is-taken = subst Taken (sym q) (w .leads (endOf 0 ts));
+              whole = utf8-append (take (endOf 0 ts) s) (w .bytes) (front-whole sw s ts r e h) ∙ w .leads .whole;
+              is-taken = subst Taken (sym q) (w .leads .to-end (endOf 0 ts));
             };
         more = w .bytes;
         text-is = refl;
@@ -207,7 +159,7 @@ end-either place (done t) h = absurd (h refl)
 
 -- ---- the sentence
 
-module _ (sw : Switches) (any : Bool) (s : List ℕ) where
+module _ (sw : Switches) (any : Bool) (s : List ℕ) (whole : isWhole (utf8 s) ≡ true) where
   -- u, behind the tokens ts, is "the first token that no taken text could have there": some taken text has the tokens before it, and even the same
   -- bytes up to there; none has u behind them
   pub record First (ts : List Token) (u : Token) : Type 0 where
@@ -246,7 +198,7 @@ module _ (sw : Switches) (any : Bool) (s : List ℕ) where
           (record {
             rest = r;
             has = f;
-            could = never-late sw any l s ts (L.next u r) d f p;
+            could = never-late sw any l s ts (L.next u r) d whole f p;
             could-not = could-not sw any l ts u d 7 p (x ∙ ap refuse a) disallowed;
           }))
       on (to-end ts e d f p) =
@@ -259,7 +211,7 @@ module _ (sw : Switches) (any : Bool) (s : List ℕ) where
           (at-end ts
           (record {
             has = f ∙ ap (λ (n : ℕ). leads ts (L.end n)) c;
-            could = never-late sw any l s ts (L.end e) d f p;
+            could = never-late sw any l s ts (L.end e) d whole f p;
             could-not =
                 λ l′ k. not-taken (ended-anyway sw l l′ e p a) (subst (λ (x : Tokens). Taken (run sw l′ x (before any))) f k);
           }))
@@ -290,7 +242,7 @@ module _ (sw : Switches) (any : Bool) (s : List ℕ) where
       on : (d : Config) (l : Limits) → Over sw l (before any) ts d → (x : Step) → step sw l d u ≡ x → ByRule (step sw l d u) → RefusedAt (u .start)
       on d l p (go e) x h =
           absurd (w .could-not
-          (never-late sw any l s (ts ++ (u ∷ [])) (w .rest) e (w .has ∙ sym (leads-last ts u (w .rest))) (over-more sw l u p x) .could))
+          (never-late sw any l s (ts ++ (u ∷ [])) (w .rest) e whole (w .has ∙ sym (leads-last ts u (w .rest))) (over-more sw l u p x) .could))
       on d l p (refuse n) x h =
           let r : Rule n = subst ByRule x h in
           record {

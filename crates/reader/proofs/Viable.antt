@@ -11,7 +11,9 @@ use lib.ListN.{length}
 use borrow.Author.Tests.{lt-leb}
 use Prim.Native.Char.{Char, code}
 use Rattle.text.specs.declared.switches.Switches.{Switches}
-use Rattle.text.specs.Bytes.{Class, classOf, oneOf, isNumberByte, isWordByte, isLetterOrDigit}
+use Rattle.text.specs.Bytes.{Class, classOf, oneOf, isNumberByte, isWordByte, isLetterOrDigit, feed}
+use Rattle.text.specs.Utf8.{lead, utf8Step, utf8, isWhole}
+use Rattle.text.proofs.Utf8Join.{utf8-append}
 use Rattle.lexer.specs.Token as L
 use Rattle.lexer.specs.Token.{Token, Tokens, itemOf, item, afterItem, cut}
 use Rattle.lexer.proofs.LocalLaws.{heads, goesOn}
@@ -39,18 +41,29 @@ closeAll : List Frame → List ℕ
 closeAll [] = []
 closeAll (f ∷ fs) = code (closer (f .kind)) ∷ closeName (f .label .name) (closeAll fs)
 
-closer-class : (k : Kind) → classOf (code (closer k)) ≡ Class.mark
-unfolding classOf oneOf
-closer-class Object = refl
-closer-class Array = refl
-closer-class Tuple = refl
+-- a bracket or mark by its byte: no word or number goes on with it, and it is a character by itself
+record MarkByte (m : Char) : Type 0 where
+  class : classOf (code m) ≡ Class.mark
+  ends : goesOn (code m) ≡ false
+  whole : isWhole (utf8 (code m ∷ [])) ≡ true
 
--- no word or number goes on with a closing bracket
-closer-ends : (k : Kind) → goesOn (code (closer k)) ≡ false
-unfolding goesOn isNumberByte isWordByte isLetterOrDigit
-closer-ends Object = refl
-closer-ends Array = refl
-closer-ends Tuple = refl
+square : MarkByte "["
+unfolding classOf oneOf goesOn isNumberByte isWordByte isLetterOrDigit utf8 feed utf8Step lead isWhole
+square = record { class = refl; ends = refl; whole = refl }
+
+round : MarkByte "("
+unfolding classOf oneOf goesOn isNumberByte isWordByte isLetterOrDigit utf8 feed utf8Step lead isWhole
+round = record { class = refl; ends = refl; whole = refl }
+
+colon-mark : MarkByte ":"
+unfolding classOf oneOf goesOn isNumberByte isWordByte isLetterOrDigit utf8 feed utf8Step lead isWhole
+colon-mark = record { class = refl; ends = refl; whole = refl }
+
+closing : (k : Kind) → MarkByte (closer k)
+unfolding classOf oneOf goesOn isNumberByte isWordByte isLetterOrDigit utf8 feed utf8Step lead isWhole
+closing Object = record { class = refl; ends = refl; whole = refl }
+closing Array = record { class = refl; ends = refl; whole = refl }
+closing Tuple = record { class = refl; ends = refl; whole = refl }
 
 is-closer : (k : Kind) → isMark (closer k) (L.mark (code (closer k))) ≡ true
 unfolding isMark
@@ -110,34 +123,40 @@ module _ (sw : Switches) (limits : Limits) where
   close-step at f fs after n = close-or (config (f ∷ fs) (inside after) n) f fs (markToken at (closer (f .kind))) _ (is-closer (f .kind))
   close-step at f fs more n = close-or (config (f ∷ fs) (inside more) n) f fs (markToken at (closer (f .kind))) _ (is-closer (f .kind))
 
-  -- what the bytes come to from a state, wherever they stand
-  abbrev Leads : List ℕ → Config → Type 0
-  Leads bytes c = (at : ℕ) → Taken (run sw limits (cut sw 0 at bytes) c)
+  -- the bytes are UTF-8 and lead from the state to a taken end, wherever they stand
+  pub record Leads (bytes : List ℕ) (c : Config) : Type 0 where
+    pub whole : isWhole (utf8 bytes) ≡ true
+    pub to-end : (at : ℕ) → Taken (run sw limits (cut sw 0 at bytes) c)
 
-  run-mark : (m : Char) (rest : List ℕ) (c : Config) (d : ℕ → Config) → classOf (code m) ≡ Class.mark
-      → ((at : ℕ) → step sw limits c (markToken at m) ≡ go (d at)) → ((at : ℕ) → Leads rest (d at)) → Leads (code m ∷ rest) c
+  run-mark : (m : Char) (rest : List ℕ) (c : Config) (d : ℕ → Config) → MarkByte m → ((at : ℕ) → step sw limits c (markToken at m) ≡ go (d at))
+      → ((at : ℕ) → Leads rest (d at)) → Leads (code m ∷ rest) c
   unfolding run afterStep Taken cut afterItem item itemOf
-  run-mark m rest c d k e h at =
-      ap (λ (x : Class). isTaken (run sw limits (afterItem at (itemOf sw x (code m) rest) (λ n. cut sw n (suc at) rest)) c)) k
-      ∙ ap (λ (x : Step). isTaken (afterStep at x (λ g. run sw limits (cut sw 0 (suc at) rest) g))) (e at) ∙ h at (suc at)
+  run-mark m rest c d k e h =
+      record {
+        whole = utf8-append (code m ∷ []) rest (k .whole) ∙ h 0 .whole;
+        to-end =
+            λ at.
+            ap (λ (x : Class). isTaken (run sw limits (afterItem at (itemOf sw x (code m) rest) (λ n. cut sw n (suc at) rest)) c)) (k .class)
+            ∙ ap (λ (x : Step). isTaken (afterStep at x (λ g. run sw limits (cut sw 0 (suc at) rest) g))) (e at) ∙ h at .to-end (suc at);
+      }
 
   -- the bracket of an identifier closes
   name-close : (fs : List Frame) (o : Option Span) (n : ℕ) (t : Tree) (rest : List ℕ) → ((u : Tree) → Leads rest (finished fs n u))
       → Leads (closeName o rest) (ended fs n o t)
-  unfolding closeName ended step modeStep isMark classOf oneOf
+  unfolding closeName ended step modeStep isMark
   name-close fs none n t rest k = k t
   name-close fs (some s) n t rest k =
-      run-mark ")" rest (config fs (close t) n) (λ at. finished fs n (withStop (at + 1) t)) refl (λ at. refl) (λ at. k (withStop (at + 1) t))
+      run-mark ")" rest (config fs (close t) n) (λ at. finished fs n (withStop (at + 1) t)) (closing Tuple) (λ at. refl) (λ at. k (withStop (at + 1) t))
 
   -- a value is whole, and every open container closes
   finish-close : (fs : List Frame) (n : ℕ) (u : Tree) → Leads (closeAll fs) (finished fs n u)
-  unfolding closeAll finished Taken isTaken run atEnd cut
-  finish-close [] n u = λ at. refl
+  unfolding closeAll finished Taken isTaken run atEnd cut utf8 feed isWhole
+  finish-close [] n u = record { whole = refl; to-end = λ at. refl }
   finish-close (g ∷ gs) n u =
       let f : Frame = frame (g .kind) (g .label) (snoc (g .children) u) (g .keys) in
       let t : ℕ → Tree = λ at. branch (headBy (f .label) (at + 1)) (f .kind) (f .children) in
       run-mark (closer (g .kind)) (closeName (g .label .name) (closeAll gs)) (config (f ∷ gs) (inside after) n)
-      (λ at. ended gs n (f .label .name) (t at)) (closer-class (g .kind)) (λ at. close-step at f gs after n)
+      (λ at. ended gs n (f .label .name) (t at)) (closing (g .kind)) (λ at. close-step at f gs after n)
       (λ at. name-close gs (g .label .name) n (t at) (closeAll gs) (λ v. finish-close gs n v))
 
   all-close : (f : Frame) (fs : List Frame) (slot : Slot) (n : ℕ) → Leads (closeAll (f ∷ fs)) (config (f ∷ fs) (inside slot) n)
@@ -145,7 +164,7 @@ module _ (sw : Switches) (limits : Limits) where
   all-close f fs slot n =
       let t : ℕ → Tree = λ at. branch (headBy (f .label) (at + 1)) (f .kind) (f .children) in
       run-mark (closer (f .kind)) (closeName (f .label .name) (closeAll fs)) (config (f ∷ fs) (inside slot) n)
-      (λ at. ended fs n (f .label .name) (t at)) (closer-class (f .kind)) (λ at. close-step at f fs slot n)
+      (λ at. ended fs n (f .label .name) (t at)) (closing (f .kind)) (λ at. close-step at f fs slot n)
       (λ at. name-close fs (f .label .name) n (t at) (closeAll fs) (λ v. finish-close fs n v))
 
   -- ---- from every state
@@ -167,61 +186,50 @@ module _ (sw : Switches) (limits : Limits) where
     pub ends : heads goesOn bytes ≡ false
     pub leads : Leads bytes c
 
+  -- bytes that begin with a mark
+  by-mark : (m : Char) (rest : List ℕ) (c : Config) → MarkByte m → Leads (code m ∷ rest) c → Viable c
+  unfolding heads
+  by-mark m rest c k h = record { bytes = code m ∷ rest; ends = k .ends; leads = h }
+
   value-viable : (fs : List Frame) (n : ℕ) (any : Bool) (key : Option Span) → length fs < limits .depth → n < limits .nodes → Viable (config fs (value any key) n)
-  unfolding step modeStep freshValue classOf oneOf closeAll closeName heads goesOn isNumberByte isWordByte isLetterOrDigit
+  unfolding step modeStep freshValue closeAll closeName
   value-viable fs n any key d k =
       let c : Config = config fs (value any key) n in
       let f : ℕ → Frame = λ at. frame Array (label at key none) nil [] in
-      record {
-        bytes = code "[" ∷ code "]" ∷ closeAll fs;
-        ends = refl;
-        leads =
-            run-mark "[" (closeAll (f 0 ∷ fs)) c (λ at. config (f at ∷ fs) (inside first) (counted limits true c)) refl
-            (λ at. open-step at c true any (label at key none) d k) (λ at. all-close (f at) fs first (counted limits true c));
-      }
+      by-mark "[" (closeAll (f 0 ∷ fs)) c square
+      (run-mark "[" (closeAll (f 0 ∷ fs)) c (λ at. config (f at ∷ fs) (inside first) (counted limits true c)) square
+      (λ at. open-step at c true any (label at key none) d k) (λ at. all-close (f at) fs first (counted limits true c)))
 
   inner-viable : (fs : List Frame) (n : ℕ) (any : Bool) (l : Label) → length fs < limits .depth → n < limits .nodes → Viable (config fs (inner any l) n)
-  unfolding step modeStep classOf oneOf heads goesOn isNumberByte isWordByte isLetterOrDigit
+  unfolding step modeStep
   inner-viable fs n any l d k =
       let c : Config = config fs (inner any l) n in
       let f : Frame = frame Array l nil [] in
-      record {
-        bytes = code "[" ∷ closeAll (f ∷ fs);
-        ends = refl;
-        leads =
-            run-mark "[" (closeAll (f ∷ fs)) c (λ at. config (f ∷ fs) (inside first) (counted limits false c)) refl
-            (λ at. open-step at c false any l d k) (λ at. all-close f fs first (counted limits false c));
-      }
+      by-mark "[" (closeAll (f ∷ fs)) c square
+      (run-mark "[" (closeAll (f ∷ fs)) c (λ at. config (f ∷ fs) (inside first) (counted limits false c)) square
+      (λ at. open-step at c false any l d k) (λ at. all-close f fs first (counted limits false c)))
 
   pub viable : (fs : List Frame) (m : Mode) (n : ℕ) → Ok fs m → length fs < limits .depth → n < limits .nodes → Viable (config fs m n)
-  unfolding Ok step modeStep isMark Taken isTaken run atEnd cut classOf oneOf heads goesOn isNumberByte isWordByte isLetterOrDigit closeAll
+  unfolding Ok step modeStep isMark Taken isTaken run atEnd cut heads closeAll utf8 feed isWhole
   viable fs (value any key) n o d k = value-viable fs n any key d k
   viable fs (named any l) n o d k =
       let w = inner-viable fs n any l d k in
-      record {
-        bytes = code "(" ∷ w .bytes;
-        ends = refl;
-        leads = run-mark "(" (w .bytes) (config fs (named any l) n) (λ at. config fs (inner any l) n) refl (λ at. refl) (λ at. w .leads);
-      }
+      let c : Config = config fs (named any l) n in
+      by-mark "(" (w .bytes) c round (run-mark "(" (w .bytes) c (λ at. config fs (inner any l) n) round (λ at. refl) (λ at. w .leads))
   viable fs (inner any l) n o d k = inner-viable fs n any l d k
   viable fs (close t) n o d k =
-      record {
-        bytes = code ")" ∷ closeAll fs;
-        ends = refl;
-        leads =
-            run-mark ")" (closeAll fs) (config fs (close t) n) (λ at. finished fs n (withStop (at + 1) t)) refl (λ at. refl)
-            (λ at. finish-close fs n (withStop (at + 1) t));
-      }
+      let c : Config = config fs (close t) n in
+      by-mark ")" (closeAll fs) c (closing Tuple)
+      (run-mark ")" (closeAll fs) c (λ at. finished fs n (withStop (at + 1) t)) (closing Tuple) (λ at. refl) (λ at. finish-close fs n (withStop (at + 1) t)))
   viable [] (inside slot) n o d k = absurd o
-  viable (f ∷ fs) (inside slot) n o d k = record { bytes = closeAll (f ∷ fs); ends = closer-ends (f .kind); leads = all-close f fs slot n }
+  viable (f ∷ fs) (inside slot) n o d k =
+      by-mark (closer (f .kind)) (closeName (f .label .name) (closeAll fs)) (config (f ∷ fs) (inside slot) n) (closing (f .kind)) (all-close f fs slot n)
   viable fs (colon key) n o d k =
       let w = value-viable fs n true (some key) d k in
-      record {
-        bytes = code ":" ∷ w .bytes;
-        ends = refl;
-        leads = run-mark ":" (w .bytes) (config fs (colon key) n) (λ at. config fs (value true (some key)) n) refl (λ at. refl) (λ at. w .leads);
-      }
-  viable fs (done t) n o d k = record { bytes = []; ends = refl; leads = λ at. refl }
+      let c : Config = config fs (colon key) n in
+      by-mark ":" (w .bytes) c colon-mark
+      (run-mark ":" (w .bytes) c (λ at. config fs (value true (some key)) n) colon-mark (λ at. refl) (λ at. w .leads))
+  viable fs (done t) n o d k = record { bytes = []; ends = refl; leads = record { whole = refl; to-end = λ at. refl } }
 
   -- ---- the states that the machine reaches
 
