@@ -4,17 +4,16 @@
 use mathlib.Core.Path.{_≡_, refl, sym, ap, _∙_, subst}
 use Prim.Native.Nat.{ℕ, suc, _+_, _≤_}
 use native.Mathlib.Omega.{arith}
-use mathlib.Core.Bool.{Bool, true, false, cond}
+use mathlib.Core.Bool.{true, false}
 use mathlib.Core.List.{List, [], _∷_, _++_, append-assoc}
 use lib.ListN.{length, length-append, take, drop, getD, take-append-drop}
 use lib.Seq.{take-at, drop-at, take-suc, drop-cons, getD-drop}
 use borrow.Author.Tests.{le-leb}
 use Rattle.text.specs.declared.switches.Switches.{Switches}
 use Rattle.text.specs.Bytes.{feed}
-use Rattle.text.specs.declared.utf8.Utf8.{Utf8}
 use Rattle.text.specs.Utf8.{lead, utf8Step, utf8, isWhole}
 use Rattle.text.proofs.Utf8Join.{AsciiHead, utf8-front, utf8-append}
-use Rattle.lexer.specs.Token.{Form, Item, token, item, Token, Tokens, cut, tokens}
+use Rattle.lexer.specs.Token.{Form, token, item, Token, Tokens, cut, tokens}
 use Rattle.lexer.proofs.LocalLaws.{heads, goesOn, form-ends}
 use Rattle.lexer.proofs.LastLaws.{LowLast, item-low}
 use Rattle.lexer.proofs.SeamLaws.{cutToken}

@@ -2,14 +2,14 @@
 -- no character is begun.
 -- Assumes nothing.
 use mathlib.Core.Path.{_≡_, refl, sym, ap, _∙_, subst}
-use Prim.Native.Nat.{ℕ, zero, suc, _+_, _-_, _≤_, _<_}
+use Prim.Native.Nat.{ℕ, suc, _+_, _-_, _≤_, _<_}
 use native.Mathlib.Decide.{decLt}
 use native.Mathlib.Omega.{arith}
-use mathlib.Core.Bool.{Bool, true, false, cond, _&&_, _||_, false≢true}
+use mathlib.Core.Bool.{Bool, true, false, _&&_, _||_, false≢true}
 use mathlib.Core.Option.{Option, none, some}
 use mathlib.Core.List.{List, [], _∷_}
 use lib.Dec.{T, leb, eqb, eqb→eq, leb→le}
-use lib.ListN.{length, take, drop, getD}
+use lib.ListN.{take, drop, getD}
 use lib.Seq.{getD-drop, drop-drop}
 use Rattle.text.specs.declared.switches.Switches.{Switches}
 use Rattle.text.specs.Bytes.{feed, front, begins, Class, classOf, isCapital, isSmall, isDigit, isJoiner, isLetterOrDigit, isWordByte, isNumberByte, within, is, ascii}
@@ -26,9 +26,9 @@ use Rattle.lexer.specs.declared.closing.Closing.{Closing}
 use Rattle.lexer.specs.declared.closing.Closing.the-variants as C
 use Rattle.lexer.specs.declared.closing.Block.{Block}
 use Rattle.lexer.specs.declared.closing.Block.the-variants as B
-use Rattle.lexer.specs.Closing.{afterQuote, afterOther, closingStep, closing, block, notNewline}
+use Rattle.lexer.specs.Closing.{afterOther, closingStep, closing, block}
 use Rattle.lexer.specs.Internal.{isClosed}
-use Rattle.lexer.specs.Token.{Form, Item, gap, token, fault, blockItem, comment, contentItem, closedItem, hasEscapes, stringItem, hashCount, rawItem, opensRaw, wordItem, meantItem, numberItem, smallItem, itemOf, item}
+use Rattle.lexer.specs.Token.{Item, gap, token, fault, blockItem, comment, contentItem, closedItem, hasEscapes, stringItem, hashCount, rawItem, opensRaw, wordItem, meantItem, numberItem, smallItem, itemOf, item}
 use Rattle.lexer.proofs.ClosingLaws.{closingBytes, closed-stays}
 use Rattle.lexer.proofs.LocalLaws.{close-goes}
 

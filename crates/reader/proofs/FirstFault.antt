@@ -1,43 +1,86 @@
--- "7 is at the first token that no taken text could have there, limits and doubled keys apart" (document 01, "Numbers of refusal").
+-- "7 is at the first token that no taken text could have there, limits and doubled keys apart" (document 01, "Numbers of refusal"), both ways, for
+-- every switch setting, for a root and for a value of any kind. Word by word:
+-- - "taken text": bytes that are UTF-8 and that the machine takes in some limits, so that limits are apart: `Could`.
+-- - "the first token that no taken text could have there": a taken text has the tokens before it, one that even begins with the same bytes up to
+--   their end; and no taken text has it behind them, with the same form at the same place: `First`.
+-- - "7 is at": a text that is refused with 7 is refused at the start of such a token, or at its length if it ends early: `seven-first`.
+-- - And at such a token a text is refused with 7, unless a limit (9, 10) stops its reading; "doubled keys apart": with 8, if the token's content is
+--   among the keys of the innermost object: `first-seven`.
 -- Assumes nothing.
 use mathlib.Core.Path.{_≡_, refl, sym, ap, _∙_, subst}
-use Prim.Native.Nat.{ℕ, suc}
+use Prim.Native.Nat.{ℕ, suc, _≤_}
 use native.Mathlib.Omega.{arith}
 use mathlib.Core.Bool.{Bool, true, false≢true}
 use mathlib.Core.List.{List, [], _∷_, _++_}
+use lib.Dec.{leb}
 use lib.ListN.{length, take}
 use Rattle.text.specs.declared.switches.Switches.{Switches}
 use Rattle.text.specs.Utf8.{utf8, isWhole}
+use Rattle.text.proofs.Choice.{cond-case}
 use Rattle.text.proofs.Utf8Join.{utf8-append}
 use Rattle.lexer.specs.Token as L
 use Rattle.lexer.specs.Token.{Token, Tokens, cut, tokens}
 use Rattle.lexer.proofs.TokenLaws.{Within, tokens-within}
 use Rattle.lexer.proofs.FaultLaws.{TokensFault, tokens-fault}
 use Rattle.lexer.proofs.ItemLaws.{leads, leads-append}
-use Rattle.lexer.proofs.FrontLaws.{endOf, front-tokens, front-whole}
+use Rattle.lexer.proofs.FrontLaws.{endOf, end-last, front-tokens, front-whole}
 use Rattle.reader.specs.declared.tree.Limits.{Limits}
-use Rattle.reader.specs.Syntax.{Mode, value, named, inner, close, inside, colon, done, Config, Step, go, refuse, step, Outcome, taken, refused, atEnd, afterStep, run, before}
-use Rattle.reader.specs.Reading.{isTaken}
-use Rattle.reader.proofs.LimitLaws.{Limit}
+use Rattle.reader.specs.Syntax.{Config, Step, go, refuse, step, Outcome, refused, atEnd, afterStep, run, before}
+use Rattle.reader.specs.Reading.{maxText, outcome, isTaken}
 use Rattle.reader.proofs.Viable.{Taken, Ok, Viable, viable, step-ok}
-use Rattle.reader.proofs.RoomLaws.{Roomier, plus, plus-left, Over, stays, goes, over-more, over-run, over-up, Apart, is, by-limit, Rule, disallowed, doubled, rule-or-limit, ByRule, step-rule, refused-anyway, ended-anyway}
+use Rattle.reader.proofs.RoomLaws.{plus, plus-left, Over, stays, goes, over-more, over-run, over-up, Apart, is, by-limit, refused-anyway, ended-anyway}
+use Rattle.reader.proofs.RuleLaws.{Rule, disallowed, rule-or-limit, ByRule, step-rule}
+use Rattle.reader.proofs.ReplaceLaws.{outcome-run}
+use Rattle.reader.proofs.ReachLaws.{Reach, to-token, to-end, to-fault, reach, taken-over, end-place, fault-not, end-either}
 
--- ---- what a taken text could have
+-- ---- the words
 
--- some text that is taken, in some limits, has these tokens first
-pub record Could (sw : Switches) (any : Bool) (ts : List Token) : Type 0 where
-  pub text : List ℕ
-  pub limits : Limits
-  pub rest : Tokens
-  pub has : tokens sw text ≡ leads ts rest
-  pub whole : isWhole (utf8 text) ≡ true
-  pub is-taken : Taken (run sw limits (tokens sw text) (before any))
+module _ (sw : Switches) (any : Bool) where
+  -- some taken text has these tokens first
+  pub record Could (ts : List Token) : Type 0 where
+    pub text : List ℕ
+    pub limits : Limits
+    pub rest : Tokens
+    pub has : tokens sw text ≡ leads ts rest
+    pub whole : isWhole (utf8 text) ≡ true
+    pub is-taken : Taken (run sw limits (tokens sw text) (before any))
 
--- and it begins with the bytes of s up to the end of these tokens
-pub record Completed (sw : Switches) (any : Bool) (s : List ℕ) (ts : List Token) : Type 0 where
-  pub could : Could sw any ts
-  pub more : List ℕ
-  pub text-is : could .text ≡ take (endOf 0 ts) s ++ more
+  module _ (s : List ℕ) where
+    -- and it begins with the bytes of s up to the end of the last of these tokens
+    pub record Completed (ts : List Token) : Type 0 where
+      pub could : Could ts
+      pub more : List ℕ
+      pub text-is : could .text ≡ take (endOf 0 ts) s ++ more
+
+    -- u, behind the tokens ts of s, is "the first token that no taken text could have there"
+    pub record First (ts : List Token) (u : Token) : Type 0 where
+      pub rest : Tokens
+      pub has : tokens sw s ≡ leads ts (L.next u rest)
+      pub could : Completed ts
+      pub could-not : Could (ts ++ (u ∷ [])) → ⊥
+
+    -- "or text ends early": some taken text has all tokens of s first, but s isn't taken in any limits
+    pub record Early (ts : List Token) : Type 0 where
+      pub has : tokens sw s ≡ leads ts (L.end (length s))
+      pub could : Completed ts
+      pub could-not : (l : Limits) → Taken (run sw l (tokens sw s) (before any)) → ⊥
+
+    -- "its start, or the length"
+    pub data FirstAt : (place : ℕ) → Type 0 where
+      at-token : (ts : List Token) (u : Token) → First ts u → FirstAt (u .start)
+      at-end : (ts : List Token) → Early ts → FirstAt (length s)
+
+    -- s is refused at u, behind the tokens ts, by a rule (7, or 8 of a doubled key): in some limits, and in all others unless they stop the reading
+    pub record RefusedAt (ts : List Token) (u : Token) : Type 0 where
+      pub limits : Limits
+      pub state : Config
+      pub over : Over sw limits (before any) ts state
+      pub number : ℕ
+      pub rule : Rule state u number
+      pub there : outcome sw any limits s ≡ refused number (u .start)
+      pub always : (l : Limits) → Apart (refused number (u .start)) (outcome sw any l s)
+
+-- ---- never late, never early
 
 over-ok : (sw : Switches) (l : Limits) {c d : Config} {ts : List Token} → Ok (c .stack) (c .mode) → Over sw l c ts d → Ok (d .stack) (d .mode)
 over-ok sw l o stays = o
@@ -81,9 +124,17 @@ module _ (sw : Switches) (any : Bool) where
         text-is = refl;
       }
 
+  -- the same by the last token u that is not refused: the text begins with the bytes of s up to u's end
+  pub never-late-at : (l : Limits) (s : List ℕ) (ts : List Token) (u : Token) (r : Tokens) (d : Config) → isWhole (utf8 s) ≡ true
+      → tokens sw s ≡ leads (ts ++ (u ∷ [])) r → Over sw l (before any) (ts ++ (u ∷ [])) d
+      → (w : Could sw any (ts ++ (u ∷ []))) × (t : List ℕ) × (w .text ≡ take (u .stop) s ++ t)
+  never-late-at l s ts u r d h e p =
+      let w = never-late l s (ts ++ (u ∷ [])) r d h e p in
+      (w .could, w .more, w .text-is ∙ ap (λ (n : ℕ). take n s ++ w .more) (end-last 0 ts u))
+
   -- NEVER EARLY: where a token is refused with 7, every text that has the same tokens so far is refused with 7 at it, whatever follows and whatever
-  -- the limits are, if no limit (9, 10) stops it before. The same holds of 8.
-  pub never-early : (l : Limits) (ts : List Token) (u : Token) (d : Config) (n : ℕ) → Over sw l (before any) ts d → step sw l d u ≡ refuse n → Rule n
+  -- the limits are, unless a limit (9, 10) stops its reading. The same holds of 8.
+  pub never-early : (l : Limits) (ts : List Token) (u : Token) (d : Config) (n : ℕ) → Over sw l (before any) ts d → step sw l d u ≡ refuse n → Rule d u n
       → (l′ : Limits) (s : List ℕ) (r : Tokens) → tokens sw s ≡ leads ts (L.next u r)
       → Apart (refused n (u .start)) (run sw l′ (tokens sw s) (before any))
   never-early l ts u d n p e h l′ s r f =
@@ -91,109 +142,29 @@ module _ (sw : Switches) (any : Bool) where
       (refused-anyway sw l l′ u n r p e (rule-or-limit h))
 
   -- so no taken text has that token there
-  pub could-not : (l : Limits) (ts : List Token) (u : Token) (d : Config) (n : ℕ) → Over sw l (before any) ts d → step sw l d u ≡ refuse n → Rule n
+  pub could-not : (l : Limits) (ts : List Token) (u : Token) (d : Config) (n : ℕ) → Over sw l (before any) ts d → step sw l d u ≡ refuse n → Rule d u n
       → Could sw any (ts ++ (u ∷ [])) → ⊥
   could-not l ts u d n p e h w =
       not-taken (never-early l ts u d n p e h (w .limits) (w .text) (w .rest) (w .has ∙ leads-last ts u (w .rest))) (w .is-taken)
 
--- ---- where a run ends
-
--- how far the machine goes over tokens: to one that is refused, to the end, or to a fault
-data Reach (sw : Switches) (l : Limits) (c : Config) (all : Tokens) : Type 0 where
-  to-token : (ts : List Token) (u : Token) (r : Tokens) (d : Config) (n : ℕ) → all ≡ leads ts (L.next u r) → Over sw l c ts d → step sw l d u ≡ refuse n
-      → Reach sw l c all
-  to-end : (ts : List Token) (place : ℕ) (d : Config) → all ≡ leads ts (L.end place) → Over sw l c ts d → Reach sw l c all
-  to-fault : (ts : List Token) (n place : ℕ) (d : Config) → all ≡ leads ts (Tokens.fault n place) → Over sw l c ts d → Reach sw l c all
-
-module _ (sw : Switches) (l : Limits) where
-  reach-on : (t : Token) (all : Tokens) (c d : Config) → step sw l c t ≡ go d → Reach sw l d all → Reach sw l c (L.next t all)
-  unfolding leads
-  reach-on t all c d e (to-token ts u r g n f p x) = to-token (t ∷ ts) u r g n (ap (L.next t) f) (goes e p) x
-  reach-on t all c d e (to-end ts place g f p) = to-end (t ∷ ts) place g (ap (L.next t) f) (goes e p)
-  reach-on t all c d e (to-fault ts n place g f p) = to-fault (t ∷ ts) n place g (ap (L.next t) f) (goes e p)
-
-  reach-next : (t : Token) (all : Tokens) (c : Config) (s : Step) → step sw l c t ≡ s → ((d : Config) → Reach sw l d all) → Reach sw l c (L.next t all)
-  unfolding leads
-  reach-next t all c (go d) e f = reach-on t all c d e (f d)
-  reach-next t all c (refuse n) e f = to-token [] t all c n refl stays e
-
-  reach : (all : Tokens) (c : Config) → Reach sw l c all
-  unfolding leads
-  reach (L.next t all) c = reach-next t all c (step sw l c t) refl (λ d. reach all d)
-  reach (L.end place) c = to-end [] place c refl stays
-  reach (Tokens.fault n place) c = to-fault [] n place c refl stays
-
-  -- a taken run goes over all tokens
-  taken-over : (ts : List Token) (r : Tokens) (c : Config) → Taken (run sw l (leads ts r) c) → (d : Config) × Over sw l c ts d
-  unfolding leads run afterStep Taken isTaken
-  taken-over [] r c h = (c, stays)
-  taken-over (t ∷ ts) r c h = on (step sw l c t) refl h (λ d. taken-over ts r d)
-    where
-      on : (s : Step) → step sw l c t ≡ s → Taken (afterStep (t .start) s (λ g. run sw l (leads ts r) g))
-          → ((d : Config) → Taken (run sw l (leads ts r) d) → (e : Config) × Over sw l d ts e) → (e : Config) × Over sw l c (t ∷ ts) e
-      on (go d) e k f = let w = f d k in (w .0, goes e (w .1))
-      on (refuse n) e k f = absurd (false≢true k)
-
--- the end of a text is told as its length
-end-place : (n at : ℕ) (ts : List Token) (place : ℕ) → Within n at (leads ts (L.end place)) → place ≡ n
-unfolding leads Within
-end-place n at [] place w = w
-end-place n at (t ∷ ts) place w = end-place n (t .stop) ts place (w .3)
-
--- the fault of a token is not 7
-fault-not : (ts : List Token) (n place : ℕ) → TokensFault (leads ts (Tokens.fault n place)) → n ≡ 7 → ⊥
-unfolding leads TokensFault
-fault-not [] n place h e = let a = h .0 in let b = h .1 in omega arith
-fault-not (t ∷ ts) n place h e = fault-not ts n place h e
-
--- at the end the machine takes or refuses with 7
-end-either : (place : ℕ) (m : Mode) → (Taken (atEnd place m) → ⊥) → atEnd place m ≡ refused 7 place
-unfolding atEnd Taken isTaken
-end-either place (value any key) h = refl
-end-either place (named any a) h = refl
-end-either place (inner any a) h = refl
-end-either place (close t) h = refl
-end-either place (inside slot) h = refl
-end-either place (colon key) h = refl
-end-either place (done t) h = absurd (h refl)
-
 -- ---- the sentence
 
 module _ (sw : Switches) (any : Bool) (s : List ℕ) (whole : isWhole (utf8 s) ≡ true) where
-  -- u, behind the tokens ts, is "the first token that no taken text could have there": some taken text has the tokens before it, and even the same
-  -- bytes up to there; none has u behind them
-  pub record First (ts : List Token) (u : Token) : Type 0 where
-    pub rest : Tokens
-    pub has : tokens sw s ≡ leads ts (L.next u rest)
-    pub could : Completed sw any s ts
-    pub could-not : Could sw any (ts ++ (u ∷ [])) → ⊥
-
-  -- "or text ends early": some taken text has all its tokens, and it isn't taken itself
-  pub record Early (ts : List Token) : Type 0 where
-    pub has : tokens sw s ≡ leads ts (L.end (length s))
-    pub could : Completed sw any s ts
-    pub could-not : (l : Limits) → Taken (run sw l (tokens sw s) (before any)) → ⊥
-
-  -- "its start, or the length"
-  pub data FirstAt : (place : ℕ) → Type 0 where
-    at-token : (ts : List Token) (u : Token) → First ts u → FirstAt (u .start)
-    at-end : (ts : List Token) → Early ts → FirstAt (length s)
-
-  -- if the text is refused with 7, then there
-  pub seven-first : (l : Limits) (place : ℕ) → run sw l (tokens sw s) (before any) ≡ refused 7 place → FirstAt place
+  -- a run that is refused with 7
+  run-first : (l : Limits) (place : ℕ) → run sw l (tokens sw s) (before any) ≡ refused 7 place → FirstAt sw any s place
   unfolding run afterStep Taken isTaken
-  seven-first l place h = on (reach sw l (tokens sw s) (before any))
+  run-first l place h = on (reach sw l (tokens sw s) (before any))
     where
       -- what the run comes to behind the tokens that it goes over
       rest-is : {d : Config} {ts : List Token} (r : Tokens) → tokens sw s ≡ leads ts r → Over sw l (before any) ts d → run sw l r d ≡ refused 7 place
       rest-is r f p = sym (ap (λ (x : Tokens). run sw l x (before any)) f ∙ over-run sw l r p) ∙ h
 
-      on : Reach sw l (before any) (tokens sw s) → FirstAt place
+      on : Reach sw l (before any) (tokens sw s) → FirstAt sw any s place
       on (to-token ts u r d n f p x) =
           let q : refused n (u .start) ≡ refused 7 place = sym (ap (λ (y : Step). afterStep (u .start) y (λ g. run sw l r g)) x) ∙ rest-is (L.next u r) f p in
           let a : n ≡ 7 = cc in
           let b : u .start ≡ place = cc in
-          subst FirstAt b
+          subst (FirstAt sw any s) b
           (at-token ts u
           (record {
             rest = r;
@@ -207,7 +178,7 @@ module _ (sw : Switches) (any : Bool) (s : List ℕ) (whole : isWhole (utf8 s) �
           let z : refused 7 e ≡ refused 7 place = sym a ∙ q in
           let b : e ≡ place = cc in
           let c : e ≡ length s = end-place (length s) 0 ts e (subst (Within (length s) 0) f (tokens-within sw s)) in
-          subst FirstAt (sym c ∙ b)
+          subst (FirstAt sw any s) (sym c ∙ b)
           (at-end ts
           (record {
             has = f ∙ ap (λ (n : ℕ). leads ts (L.end n)) c;
@@ -220,16 +191,22 @@ module _ (sw : Switches) (any : Bool) (s : List ℕ) (whole : isWhole (utf8 s) �
           let a : n ≡ 7 = cc in
           absurd (fault-not ts n e (subst TokensFault f (tokens-fault sw s)) a)
 
-  -- refused at a place, in all limits that do not stop the reading before, and there are such; with 7, or with 8 as a doubled key
-  pub record RefusedAt (place : ℕ) : Type 0 where
-    pub number : ℕ
-    pub rule : Rule number
-    pub always : (l : Limits) → Apart (refused number place) (run sw l (tokens sw s) (before any))
-    pub limits : Limits
-    pub there : run sw limits (tokens sw s) (before any) ≡ refused number place
+-- a text that is refused with 7 is refused at the first token that no taken text could have there, or at its length if it ends early
+pub seven-first : (sw : Switches) (any : Bool) (l : Limits) (s : List ℕ) (place : ℕ) → outcome sw any l s ≡ refused 7 place → FirstAt sw any s place
+unfolding outcome
+seven-first sw any l s place h =
+    let P : Outcome → Type 0 = λ o. o ≡ refused 7 place in
+    cond-case P (FirstAt sw any s place) (leb (length s) maxText) h
+    (λ _ k. cond-case P (FirstAt sw any s place) (isWhole (utf8 s)) k (λ e r. run-first sw any s e l place r)
+    (λ _ r. let q : _≡_ {A = ℕ} 2 7 = cc in absurd (omega arith)))
+    (λ _ r. let q : _≡_ {A = ℕ} 1 7 = cc in absurd (omega arith))
+
+module _ (sw : Switches) (any : Bool) (s : List ℕ) (whole : isWhole (utf8 s) ≡ true) (short : length s ≤ maxText) where
+  apart-outcome : (l : Limits) (o : Outcome) → Apart o (run sw l (tokens sw s) (before any)) → Apart o (outcome sw any l s)
+  apart-outcome l o h = subst (λ (x : Outcome). Apart o x) (sym (outcome-run sw any l s whole short)) h
 
   -- at the first token that no taken text could have there the text is refused, with 7 but for a doubled key
-  pub first-seven : (ts : List Token) (u : Token) → First ts u → RefusedAt (u .start)
+  pub first-seven : (ts : List Token) (u : Token) → First sw any s ts u → RefusedAt sw any s ts u
   unfolding run afterStep ByRule
   first-seven ts u w =
       let k = w .could .could in
@@ -239,30 +216,38 @@ module _ (sw : Switches) (any : Bool) (s : List ℕ) (whole : isWhole (utf8 s) �
       let l′ = plus l (room d) in
       on d l′ (over-up sw l l′ (plus-left l (room d)) (v .1)) (step sw l′ d u) refl (step-rule sw l′ d u (omega arith) (omega arith))
     where
-      on : (d : Config) (l : Limits) → Over sw l (before any) ts d → (x : Step) → step sw l d u ≡ x → ByRule (step sw l d u) → RefusedAt (u .start)
+      on : (d : Config) (l : Limits) → Over sw l (before any) ts d → (x : Step) → step sw l d u ≡ x → ByRule d u (step sw l d u) → RefusedAt sw any s ts u
       on d l p (go e) x h =
           absurd (w .could-not
           (never-late sw any l s (ts ++ (u ∷ [])) (w .rest) e whole (w .has ∙ sym (leads-last ts u (w .rest))) (over-more sw l u p x) .could))
       on d l p (refuse n) x h =
-          let r : Rule n = subst ByRule x h in
+          let r : Rule d u n = subst (ByRule d u) x h in
           record {
+            limits = l;
+            state = d;
+            over = p;
             number = n;
             rule = r;
-            always = λ l′. never-early sw any l ts u d n p x r l′ s (w .rest) (w .has);
-            limits = l;
             there =
-                ap (λ (y : Tokens). run sw l y (before any)) (w .has) ∙ over-run sw l (L.next u (w .rest)) p
+                outcome-run sw any l s whole short ∙ ap (λ (y : Tokens). run sw l y (before any)) (w .has) ∙ over-run sw l (L.next u (w .rest)) p
                 ∙ ap (λ (y : Step). afterStep (u .start) y (λ g. run sw l (w .rest) g)) x;
+            always = λ l′. apart-outcome l′ (refused n (u .start)) (never-early sw any l ts u d n p x r l′ s (w .rest) (w .has));
           }
 
   -- where a text ends early it is refused with 7
-  pub early-seven : (ts : List Token) → Early ts → (l : Limits) → Apart (refused 7 (length s)) (run sw l (tokens sw s) (before any))
+  pub early-seven : (ts : List Token) → Early sw any s ts
+      → (l₀ : Limits) × (outcome sw any l₀ s ≡ refused 7 (length s)) × ((l : Limits) → Apart (refused 7 (length s)) (outcome sw any l s))
   unfolding run
-  early-seven ts w l′ =
+  early-seven ts w =
       let k = w .could .could in
       let l = k .limits in
       let v = taken-over sw l ts (k .rest) (before any) (subst (λ (x : Tokens). Taken (run sw l x (before any))) (k .has) (k .is-taken)) in
       let q : run sw l (tokens sw s) (before any) ≡ atEnd (length s) (v .0 .mode) =
       ap (λ (y : Tokens). run sw l y (before any)) (w .has) ∙ over-run sw l (L.end (length s)) (v .1) in
-      subst (λ (x : Tokens). Apart (refused 7 (length s)) (run sw l′ x (before any))) (sym (w .has))
-      (ended-anyway sw l l′ (length s) (v .1) (end-either (length s) (v .0 .mode) (λ h. w .could-not l (subst Taken (sym q) h))))
+      let e = end-either (length s) (v .0 .mode) (λ h. w .could-not l (subst Taken (sym q) h)) in (
+        l,
+        outcome-run sw any l s whole short ∙ q ∙ e,
+        λ l′.
+            apart-outcome l′ (refused 7 (length s))
+            (subst (λ (x : Tokens). Apart (refused 7 (length s)) (run sw l′ x (before any))) (sym (w .has)) (ended-anyway sw l l′ (length s) (v .1) e)),
+      )

@@ -6,6 +6,8 @@ pub mod SpanLaws
 pub mod SizeLaws
 pub mod Viable
 pub mod RoomLaws
+pub mod RuleLaws
+pub mod ReachLaws
 pub mod FirstFault
 pub mod PathLaws
 pub mod LimitLaws

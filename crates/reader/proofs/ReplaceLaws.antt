@@ -106,6 +106,15 @@ outcome-taken sw any limits text tree h =
     (λ _ k. cond-case P Q (isWhole (utf8 text)) k (λ e r. (e, r)) (λ _ r. let q : _≡_ {A = ℕ} 0 1 = cc in absurd (omega arith)))
     (λ _ r. let q : _≡_ {A = ℕ} 0 1 = cc in absurd (omega arith))
 
+-- a text within the size that is UTF-8 comes to its run
+pub outcome-run : (sw : Switches) (any : Bool) (limits : Limits) (text : List ℕ) → isWhole (utf8 text) ≡ true → length text ≤ maxText
+    → outcome sw any limits text ≡ run sw limits (tokens sw text) (before any)
+unfolding outcome
+outcome-run sw any limits text e h =
+    let body = run sw limits (tokens sw text) (before any) in
+    cond-true (leb (length text) maxText) (cond (isWhole (utf8 text)) body (refused 2 (wholeFront (utf8 text)))) (refused 1 maxText) (le-leb (length text) maxText h)
+    ∙ cond-true (isWhole (utf8 text)) body (refused 2 (wholeFront (utf8 text))) e
+
 reads-taken : (o : Outcome) → T (isTaken o) → (tree : Tree) × (o ≡ taken tree)
 unfolding isTaken
 reads-taken (taken t) h = (t, refl)
@@ -143,11 +152,7 @@ module _ (sw : Switches) (words node : ℕ) (text r : List ℕ) where
       let p = replaced-utf8 sw (limitsOf words) limitsAlone text r tree u (ltb 0 node) start stop m (b .1) z (a .0) (b .0) in
       let q = replaced-run sw (limitsOf words) limitsAlone text r tree u (ltb 0 node) start stop m (b .1) z in
       let new = putIn (taken tree) in
-      let body = run sw (limitsOf words) (cut sw 0 0 new) (before false) in
-      subst Fair
-      (sym (cond-true (leb (length new) maxText) (cond (isWhole (utf8 new)) body (refused 2 (wholeFront (utf8 new)))) (refused 1 maxText) (le-leb (length new) maxText l)
-      ∙ cond-true (isWhole (utf8 new)) body (refused 2 (wholeFront (utf8 new))) p))
-      q
+      subst Fair (sym (outcome-run sw false (limitsOf words) new p l)) q
 
 -- a node of a text that reads, replaced by one value (a root for node 0), within the text's size: the new text reads, or a limit stops it
 pub replaced-reading : (sw : Switches) (words node : ℕ) (text r : List ℕ) → T (reads sw words text) → node < nodeCount (reading sw words text)

@@ -1,22 +1,21 @@
 -- The machine in greater limits: it goes where it went and refuses what it refused, but for the refusals by a limit (9, 10).
 -- Assumes nothing.
 use mathlib.Core.Path.{_≡_, refl, sym, ap, _∙_, subst}
-use Prim.Native.Nat.{ℕ, _+_, _≤_, _<_}
+use Prim.Native.Nat.{ℕ, _+_, _≤_}
 use native.Mathlib.Omega.{arith}
-use mathlib.Core.Bool.{Bool, true, false, not, _&&_, true≢false}
-use mathlib.Core.Option.{Option, none, some}
+use mathlib.Core.Bool.{Bool, true, false, not, _&&_}
+use mathlib.Core.Option.{Option, none}
 use mathlib.Core.List.{List, [], _∷_, _++_}
 use lib.Dec.{T, leb, leb→le, le→leb}
 use lib.ListN.{length}
-use borrow.Author.Tests.{lt-leb}
 use Rattle.text.specs.declared.switches.Switches.{Switches}
-use Rattle.text.proofs.Choice.{cond-both, cond-pair}
+use Rattle.text.proofs.Choice.{cond-pair}
 use Rattle.lexer.specs.Token as L
 use Rattle.lexer.specs.Token.{Token, Tokens}
 use Rattle.lexer.proofs.ItemLaws.{leads}
 use Rattle.reader.specs.Tree.{Span}
 use Rattle.reader.specs.declared.tree.Limits.{Limits}
-use Rattle.reader.specs.Syntax.{Label, Frame, Slot, first, lone, after, more, Mode, value, named, inner, close, inside, colon, done, Config, label, Step, go, refuse, Begins, container, scalar, identifier, nothing, spanOf, isMark, closer, isObject, isComma, emptyByComma, keyOf, begins, refuseIf, holds, keyStep, closeOr, noNode, counted, valueStep, freshValue, childStep, slotStep, modeStep, step, Outcome, refused, atEnd, afterStep, run}
+use Rattle.reader.specs.Syntax.{Label, Frame, Slot, first, lone, after, more, Mode, value, named, inner, close, inside, colon, done, Config, Step, go, refuse, Begins, container, scalar, identifier, nothing, spanOf, isMark, closer, isObject, isComma, emptyByComma, begins, refuseIf, closeOr, noNode, counted, valueStep, freshValue, childStep, slotStep, modeStep, step, Outcome, refused, atEnd, afterStep, run}
 use Rattle.reader.proofs.LimitLaws.{Limit, deep, many}
 
 -- the second limits are not below the first
@@ -103,88 +102,6 @@ module _ (sw : Switches) (l l′ : Limits) (r : Roomier l l′) where
   pub step-freer : (c : Config) (t : Token) → Freer (step sw l c t) (step sw l′ c t)
   unfolding step
   step-freer c t = mode-freer c t (c .mode)
-
--- ---- with room
-
--- the refusals that are not by a limit: 7, and 8 of a doubled key
-pub data Rule : ℕ → Type 0 where
-  disallowed : Rule 7
-  doubled : Rule 8
-
-pub rule-or-limit : {k : ℕ} → Rule k → Limit k → ⊥
-rule-or-limit r l = apart r l refl
-  where
-    apart : {i j : ℕ} → Rule i → Limit j → i ≡ j → ⊥
-    apart disallowed deep e = omega arith
-    apart disallowed many e = omega arith
-    apart doubled deep e = omega arith
-    apart doubled many e = omega arith
-
--- the step goes on, or is refused by a rule
-unfoldable pub ByRule : Step → Type 0
-ByRule (go c) = Unit {0}
-ByRule (refuse k) = Rule k
-
-rule-if : (b : Bool) (k : ℕ) (s : Step) → Rule k → ByRule s → ByRule (refuseIf b k s)
-unfolding refuseIf ByRule
-rule-if true k s r h = r
-rule-if false k s r h = h
-
-room-if : (b : Bool) (k : ℕ) (s : Step) → b ≡ false → ByRule s → ByRule (refuseIf b k s)
-unfolding refuseIf ByRule
-room-if true k s e h = absurd (true≢false e)
-room-if false k s e h = h
-
-module _ (sw : Switches) (l : Limits) (c : Config) (t : Token) (deeper : length (c .stack) < l .depth) (one-more : c .nodes < l .nodes) where
-  node-left : (fresh : Bool) → noNode l fresh c ≡ false
-  unfolding noNode
-  node-left true = lt-leb (l .nodes) (c .nodes) one-more
-  node-left false = refl
-
-  value-rule : (fresh any : Bool) (a : Label) (b : Begins) → ByRule (valueStep l c fresh any a t b)
-  unfolding valueStep ByRule
-  value-rule fresh any a (container kind) = room-if _ 9 _ (lt-leb (l .depth) (length (c .stack)) deeper) (room-if _ 10 _ (node-left fresh) tt)
-  value-rule fresh any a (scalar s) = rule-if (not any) 7 _ disallowed (room-if _ 10 _ (node-left fresh) tt)
-  value-rule fresh any a identifier = rule-if (not fresh) 7 _ disallowed (room-if _ 10 _ (node-left fresh) tt)
-  value-rule fresh any a nothing = disallowed
-
-  key-rule : (f : Frame) (fs : List Frame) (n : ℕ) (span : Span) (k : Option (List ℕ)) → ByRule (keyStep f fs n span k)
-  unfolding keyStep ByRule
-  key-rule f fs n span none = disallowed
-  key-rule f fs n span (some k) = rule-if (holds (f .keys) k) 8 _ doubled tt
-
-  child-rule : (f : Frame) (fs : List Frame) → ByRule (childStep l c f fs t)
-  unfolding childStep freshValue
-  child-rule f fs =
-      cond-both ByRule (isObject (f .kind)) (λ _. key-rule f fs (c .nodes) (spanOf t) (keyOf (t .form)))
-      (λ _. value-rule true true (label (t .start) none none) (begins (spanOf t) (t .form)))
-
-  close-rule : (f : Frame) (fs : List Frame) (s : Step) → ByRule s → ByRule (closeOr c f fs t s)
-  unfolding closeOr ByRule
-  close-rule f fs s h = cond-both ByRule (isMark (closer (f .kind)) (t .form)) (λ _. tt) (λ _. h)
-
-  slot-rule : (slot : Slot) (fs : List Frame) → ByRule (slotStep sw l c t slot fs)
-  unfolding slotStep ByRule
-  slot-rule slot [] = disallowed
-  slot-rule first (f ∷ fs) =
-      close-rule f fs _ (cond-both ByRule (isComma (t .form) && emptyByComma sw (f .kind)) (λ _. tt) (λ _. child-rule f fs))
-  slot-rule lone (f ∷ fs) = close-rule f fs _ disallowed
-  slot-rule after (f ∷ fs) = close-rule f fs _ (cond-both ByRule (isComma (t .form)) (λ _. tt) (λ _. disallowed))
-  slot-rule more (f ∷ fs) = close-rule f fs _ (child-rule f fs)
-
-  mode-rule : (m : Mode) → ByRule (modeStep sw l c t m)
-  unfolding modeStep freshValue ByRule
-  mode-rule (value any key) = value-rule true any (label (t .start) key none) (begins (spanOf t) (t .form))
-  mode-rule (named any a) = cond-both ByRule (isMark "(" (t .form)) (λ _. tt) (λ _. disallowed)
-  mode-rule (inner any a) = value-rule false any a (begins (spanOf t) (t .form))
-  mode-rule (close tree) = cond-both ByRule (isMark ")" (t .form)) (λ _. tt) (λ _. disallowed)
-  mode-rule (inside slot) = slot-rule slot (c .stack)
-  mode-rule (colon key) = cond-both ByRule (isMark ":" (t .form)) (λ _. tt) (λ _. disallowed)
-  mode-rule (done tree) = disallowed
-
-  pub step-rule : ByRule (step sw l c t)
-  unfolding step
-  step-rule = mode-rule (c .mode)
 
 -- ---- tokens one after the other
 

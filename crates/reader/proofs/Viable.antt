@@ -15,7 +15,7 @@ use Rattle.text.specs.Bytes.{Class, classOf, oneOf, isNumberByte, isWordByte, i
 use Rattle.text.specs.Utf8.{lead, utf8Step, utf8, isWhole}
 use Rattle.text.proofs.Utf8Join.{utf8-append}
 use Rattle.lexer.specs.Token as L
-use Rattle.lexer.specs.Token.{Token, Tokens, itemOf, item, afterItem, cut}
+use Rattle.lexer.specs.Token.{Token, itemOf, item, afterItem, cut}
 use Rattle.lexer.proofs.LocalLaws.{heads, goesOn}
 use Rattle.lexer.proofs.SeamLaws.{cutToken}
 use Rattle.text.proofs.Choice.{cond-both}
