@@ -1,4 +1,5 @@
--- What only the contracts of this crate's inner functions cite. Nothing below has to be believed: the public contracts don't name it.
+-- What only the contracts of this crate's inner functions cite, and of those that are public for its modules or for the crates above
+-- alone. Nothing below has to be believed: the other public contracts don't name it.
 -- Assumes nothing.
 use Prim.Native.Nat.{ℕ, _+_, _-_, _≤_}
 use mathlib.Core.Path.{_≡_}
@@ -17,8 +18,9 @@ use Rattle.editor.specs.declared.journal.Entry.{Entry}
 use Rattle.editor.specs.declared.journal.Entry.the-variants as E
 use Rattle.editor.specs.declared.trial.Tried.{Tried}
 use Rattle.editor.specs.declared.trial.Tried.the-variants as Y
-use Rattle.editor.specs.Edit.{Lent, textOf, journalOf, Result, Shows, badLength, lengthRefused, onceRead, splice, entry, withText, overwritten, noRoom, entryStart, entryNew, entrySize, badEntry}
+use Rattle.editor.specs.Edit.{Lent, textOf, journalOf, Result, Shows, badLength, lengthRefused, onceRead, decided, correctionRefusal, withCorrection, undoRefusal, withUndo, splice, entry, withText, overwritten, noRoom, entryStart, entryNew, entrySize, badEntry}
 
+-- a `Change` by its parts
 abbrev pub changed : Verdict → (nodes used kept : ℕ) → Change
 changed verdict nodes used kept = record { verdict = verdict; nodes = nodes; used = used; kept = kept }
 
@@ -38,6 +40,7 @@ abbrev pub TriesIs : Switches → (words : ℕ) → (text new table : List ℕ) 
 TriesIs sw words text new table (Y.Reads nodes) = (reads sw words new ≡ true) × TableIs sw words new table nodes
 TriesIs sw words text new table (Y.Not nodes) = (reads sw words new ≡ false) × TableIs sw words text table nodes
 
+-- the same, for an answer
 pub record Tries (sw : Switches) (words : ℕ) (text new table : List ℕ) (r : Tried) : Type 0 where
   pub is : TriesIs sw words text new table r
 
@@ -58,10 +61,12 @@ opened sw words b refusal new = cond (badLength b) (lengthRefused words b) (once
 pub record Stopped (sw : Switches) (words : ℕ) (b : Lent) (table : List ℕ) (number place : ℕ) : Type 0 where
   pub shows : (refusal : ℕ) (new : Lent) → Shows (opened sw words b refusal new) (changed (A.Refused number place) 0 (b .used) (b .kept)) (b .text) (b .journal) table
 
+-- what a call knows once its text has been read, or that it is at its end
 abbrev pub OpensIs : Switches → (words : ℕ) → Lent → (table : List ℕ) → Reading → Type 0
 OpensIs sw words b table (R.Taken nodes) = ReadNow sw words b table nodes
 OpensIs sw words b table (R.Refused number place) = Stopped sw words b table number place
 
+-- the same, for an answer
 pub record Opens (sw : Switches) (words : ℕ) (b : Lent) (table : List ℕ) (r : Reading) : Type 0 where
   pub is : OpensIs sw words b table r
 
@@ -75,6 +80,7 @@ replaceRefusal sw words b start stop replacement =
     (cond (not (reads sw words (splice start stop replacement (textOf b)))) 16
     0))
 
+-- the buffers with the replacement in place, and its entry
 unfoldable pub withReplacement : Lent → (start stop : ℕ) (replacement : List ℕ) → Lent
 withReplacement b start stop replacement =
     let new : List ℕ = splice start stop replacement (textOf b) in
@@ -92,8 +98,18 @@ pub record Within (b : Lent) (start stop : ℕ) (replacement : List ℕ) : Type 
   pub ends : stop ≤ b .used
   pub short : length replacement ≤ 65536
 
+-- the answer and the buffers of a correction, once the text has been read; and once start and stop of the value are known
+abbrev pub CorrectsRead : Switches → (words : ℕ) → Lent → (node : ℕ) (replacement : List ℕ) → Change → (text journal table : List ℕ) → Type 0
+CorrectsRead sw words b node replacement r text journal table =
+    Shows (decided sw words b (correctionRefusal sw words b node replacement) (withCorrection sw words b node replacement)) r text journal table
+
+abbrev pub Replaces : Switches → (words : ℕ) → Lent → (start stop : ℕ) (replacement : List ℕ) → Change → (text journal table : List ℕ) → Type 0
+Replaces sw words b start stop replacement r text journal table =
+    Shows (decided sw words b (replaceRefusal sw words b start stop replacement) (withReplacement b start stop replacement)) r text journal table
+
 -- ---- undo, by the journal's last entry
 
+-- 17, 18, or where the entry's replacement stands and how long the entry is
 unfoldable pub lastEntry : (journal text : List ℕ) → Entry
 lastEntry journal text =
     cond (eqb (length journal) 0) E.Nothing
@@ -107,3 +123,7 @@ pub record LastIs (b : Lent) (start stop size : ℕ) : Type 0 where
   pub ends : stop ≤ b .used
   pub least : 12 ≤ size
   pub most : size ≤ b .kept
+
+-- the answer and the buffers of an undo, once the text has been read
+abbrev pub UndoesRead : Switches → (words : ℕ) → Lent → Change → (text journal table : List ℕ) → Type 0
+UndoesRead sw words b r text journal table = Shows (decided sw words b (undoRefusal sw words b) (withUndo b)) r text journal table

@@ -2,19 +2,19 @@
 ghost use mathlib.Core.Path.{_≡_};
 ghost use lib.ListN.{length};
 ghost use Rattle.text.specs.Switches.{presentEdition};
-ghost use Rattle.editor.specs.Edit.{lentOf, Shows, decided, correctionRefusal, withCorrection, correct, undoRefusal, withUndo, undo};
-ghost use Rattle.editor.specs.Internal.{refusedWith, Opens, ReadNow, Within, replaceRefusal, withReplacement, LastIs};
+ghost use Rattle.editor.specs.Edit.{lentOf, Shows, correct, undo};
+ghost use Rattle.editor.specs.Internal.{refusedWith, Opens, ReadNow, Within, CorrectsRead, Replaces, LastIs, UndoesRead};
 use crate::buffers::put_text;
 use crate::journal::Entry;
 use crate::journal::last_entry;
 use crate::journal::put_entry;
 use crate::trial::Tried;
 use crate::trial::try_text;
-use reader::keys::word;
 use reader::read::Reading;
 use reader::read::one_value;
 use reader::read::read_edition;
 use reader::rows::clear;
+use reader::rows::word;
 use text::switches::Switches;
 use text::switches::present;
 
@@ -80,7 +80,7 @@ fn replace(
     replacement: &[u8],
 ) -> Change
     requires { ⌜ ReadNow sw (length (now table)) (lentOf (now text) used (now journal) kept) (now table) nodes × Within (lentOf (now text) used (now journal) kept) start stop (now replacement) ⌝ }
-    ensures { λ r. ⌜ Shows (decided sw (length (now (table .entry))) (lentOf (now (text .entry)) used (now (journal .entry)) kept) (replaceRefusal sw (length (now (table .entry))) (lentOf (now (text .entry)) used (now (journal .entry)) kept) start stop (now (replacement .entry))) (withReplacement (lentOf (now (text .entry)) used (now (journal .entry)) kept) start stop (now (replacement .entry)))) r (now (text .exit)) (now (journal .exit)) (now (table .exit)) ⌝ }
+    ensures { λ r. ⌜ Replaces sw (length (now (table .entry))) (lentOf (now (text .entry)) used (now (journal .entry)) kept) start stop (now (replacement .entry)) r (now (text .exit)) (now (journal .exit)) (now (table .exit)) ⌝ }
 {
     let old = stop - start;
     let new = start + replacement.len() + (used - stop);
@@ -131,7 +131,7 @@ fn correct_read(
     replacement: &[u8],
 ) -> Change
     requires { ⌜ ReadNow sw (length (now table)) (lentOf (now text) used (now journal) kept) (now table) nodes ⌝ }
-    ensures { λ r. ⌜ Shows (decided sw (length (now (table .entry))) (lentOf (now (text .entry)) used (now (journal .entry)) kept) (correctionRefusal sw (length (now (table .entry))) (lentOf (now (text .entry)) used (now (journal .entry)) kept) node (now (replacement .entry))) (withCorrection sw (length (now (table .entry))) (lentOf (now (text .entry)) used (now (journal .entry)) kept) node (now (replacement .entry)))) r (now (text .exit)) (now (journal .exit)) (now (table .exit)) ⌝ }
+    ensures { λ r. ⌜ CorrectsRead sw (length (now (table .entry))) (lentOf (now (text .entry)) used (now (journal .entry)) kept) node (now (replacement .entry)) r (now (text .exit)) (now (journal .exit)) (now (table .exit)) ⌝ }
 {
     if nodes <= node {
         return refusal(12, nodes, used, kept);
@@ -227,7 +227,7 @@ fn undo_entry(
     size: usize,
 ) -> Change
     requires { ⌜ ReadNow sw (length (now table)) (lentOf (now text) used (now journal) kept) (now table) nodes × LastIs (lentOf (now text) used (now journal) kept) start stop size ⌝ }
-    ensures { λ r. ⌜ Shows (decided sw (length (now (table .entry))) (lentOf (now (text .entry)) used (now (journal .entry)) kept) (undoRefusal sw (length (now (table .entry))) (lentOf (now (text .entry)) used (now (journal .entry)) kept)) (withUndo (lentOf (now (text .entry)) used (now (journal .entry)) kept))) r (now (text .exit)) (now (journal .entry)) (now (table .exit)) ⌝ }
+    ensures { λ r. ⌜ UndoesRead sw (length (now (table .entry))) (lentOf (now (text .entry)) used (now (journal .entry)) kept) r (now (text .exit)) (now (journal .entry)) (now (table .exit)) ⌝ }
 {
     let old = size - 12;
     let new = start + old + (used - stop);
@@ -272,7 +272,7 @@ fn undo_read(
     nodes: usize,
 ) -> Change
     requires { ⌜ ReadNow sw (length (now table)) (lentOf (now text) used (now journal) kept) (now table) nodes ⌝ }
-    ensures { λ r. ⌜ Shows (decided sw (length (now (table .entry))) (lentOf (now (text .entry)) used (now (journal .entry)) kept) (undoRefusal sw (length (now (table .entry))) (lentOf (now (text .entry)) used (now (journal .entry)) kept)) (withUndo (lentOf (now (text .entry)) used (now (journal .entry)) kept))) r (now (text .exit)) (now (journal .entry)) (now (table .exit)) ⌝ }
+    ensures { λ r. ⌜ UndoesRead sw (length (now (table .entry))) (lentOf (now (text .entry)) used (now (journal .entry)) kept) r (now (text .exit)) (now (journal .entry)) (now (table .exit)) ⌝ }
 {
     match last_entry(&journal[..kept], &text[..used]) {
         Entry::Nothing => refusal(17, nodes, used, kept),

@@ -56,6 +56,7 @@ pub enum Entry {
     },
 }
 
+// Reads the trailer at the end of a journal in use, and judges it.
 pub fn last_entry(journal: &[u8], text: &[u8]) -> Entry
     ensures { λ r. ⌜ r ≡ lastEntry (now (journal .entry)) (now (text .entry)) ⌝ }
 {

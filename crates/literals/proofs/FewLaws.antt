@@ -11,7 +11,8 @@ use Rattle.text.specs.declared.utf8.Utf8.{Utf8}
 use Rattle.text.specs.declared.utf8.Utf8.the-variants.{Whole, Part, Broken}
 use Rattle.text.specs.declared.utf8.Few.{Few}
 use Rattle.text.specs.declared.utf8.Few.the-variants.{Zero, One, Two, Three, Four}
-use Rattle.text.specs.Utf8.{lead, later, utf8Step, bytesRead, listed}
+use Rattle.text.specs.Utf8.{lead, later, utf8Step, listed}
+use Rattle.text.specs.Internal.{bytesRead}
 use Rattle.text.proofs.Choice.{cond-both}
 
 pub few-short : (f : Few) → length (listed f) ≤ 4

@@ -13,7 +13,8 @@ use Rattle.text.specs.declared.utf8.Utf8.{Utf8}
 use Rattle.text.specs.declared.utf8.Utf8.the-variants.{Whole}
 use Rattle.text.specs.declared.utf8.Few.the-variants.{One}
 use Rattle.text.specs.Bytes.{feed}
-use Rattle.text.specs.Utf8.{lead, utf8Step, utf8, isUtf8, isWhole, listed, bytesRead}
+use Rattle.text.specs.Utf8.{lead, utf8Step, utf8, isUtf8, isWhole, listed}
+use Rattle.text.specs.Internal.{bytesRead}
 use Rattle.text.proofs.FeedLaws.{feed-append}
 use Rattle.literals.specs.declared.decoder.Body.{Body}
 use Rattle.literals.specs.declared.decoder.Body.the-variants.{Quoted, Raw, Base64, Word}

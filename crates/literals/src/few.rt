@@ -5,11 +5,13 @@ ghost use Prim.Native.Nat.{_≤_, _<_, _+_};
 ghost use lib.ListN.{length};
 ghost use lib.Seq.{sets};
 ghost use Rattle.text.specs.Bytes.{feed};
-ghost use Rattle.text.specs.Utf8.{utf8Step, isWhole, listed, bytesRead};
+ghost use Rattle.text.specs.Utf8.{utf8Step, isWhole, listed};
+ghost use Rattle.text.specs.Internal.{bytesRead};
 use text::utf8::Few;
 use text::utf8::Utf8;
 use text::utf8::utf8_step;
 
+// How many bytes these are.
 pub fn few_len(f: Few) -> usize
     ensures { λ r. ⌜ r ≡ length (listed f) ⌝ }
 {

@@ -16,7 +16,7 @@ use Rattle.reader.specs.Content
 unfoldable pub readings : Unit {0}
 unfolding Switches.presentEdition Bytes.feed Bytes.oneOf Bytes.front Bytes.begins Bytes.sameBytes Bytes.classOf Bytes.classNumber
     Bytes.isLetterOrDigit Bytes.isWordByte Bytes.isNumberByte Bytes.digitValue Utf8.lead Utf8.later Utf8.utf8Step Utf8.utf8 Utf8.isWhole
-    Utf8.wholeFront Utf8.isUtf8 Utf8.isScalar Utf8.encode Utf8.listed Utf8.bytesRead Decoding.oneLetter Decoding.hexDone Decoding.hexDigit
+    Utf8.wholeFront Utf8.isUtf8 Utf8.isScalar Utf8.encode Utf8.listed Decoding.oneLetter Decoding.hexDone Decoding.hexDigit
     Decoding.hexStep Decoding.quotedRefuses Decoding.plainStep Decoding.manyDigits Decoding.escaped Decoding.escapeStep Decoding.rawRefuses
     Decoding.rawStep Decoding.sextet Decoding.base64Digit Decoding.wholeBytes Decoding.pad Decoding.digitsStep Decoding.padsStep Decoding.decodeStep
     Decoding.mayEnd Decoding.prepend Decoding.decoded Decoding.startOf Decoding.content Decoding.onlyUtf8 Decoding.contentOf Decoding.measured

@@ -1,24 +1,8 @@
 // Keys: whether one stands among the keys of an object's children so far, which are found by following word 8 in the table.
-ghost use mathlib.Core.Path.{_≡_};
-ghost use Prim.Native.Nat.{_<_};
-ghost use lib.ListN.{length, getD};
 ghost use Rattle.reader.specs.Internal.Values.{Chained, KeyHere, FoundKey};
+use super::rows::word;
 use lexer::token::same_keys;
 use text::switches::Switches;
-
-fn wide(x: u32) -> usize
-    ensures { λ r. ⌜ r ≡ x ⌝ }
-{
-    x as usize
-}
-
-// Word `i` of a table. Public for the crates above only.
-pub fn word(table: &[u32], i: usize) -> usize
-    requires { ⌜ i < length (now table) ⌝ }
-    ensures { λ r. ⌜ r ≡ getD (now (table .entry)) i 0 ⌝ }
-{
-    wide(table[i])
-}
 
 // Whether the key from `a` to `e` is one of the nodes' from `from` to before `end`, which are side by side.
 pub fn find_key(

@@ -1,7 +1,7 @@
 // The rows of the table.
 ghost use mathlib.Core.Path.{_≡_};
 ghost use Prim.Native.Nat.{_≤_, _<_, _+_, _*_};
-ghost use lib.ListN.{length, set, replicate};
+ghost use lib.ListN.{length, getD, set, replicate};
 ghost use lib.Seq.{sets};
 ghost use Rattle.reader.specs.Tree.{kindNumber};
 ghost use Rattle.reader.specs.Internal.Values.{rowWords};
@@ -58,6 +58,7 @@ pub fn kind_word(kind: Kind) -> u32
     }
 }
 
+// Makes every word 0.
 pub fn clear(table: &mut [u32])
     ensures { λ _. ⌜ now (table .exit) ≡ replicate (length (now (table .entry))) 0 ⌝ }
 {
@@ -66,4 +67,18 @@ pub fn clear(table: &mut [u32])
         table[i] = 0;
         i += 1;
     }
+}
+
+fn wide(x: u32) -> usize
+    ensures { λ r. ⌜ r ≡ x ⌝ }
+{
+    x as usize
+}
+
+// Word `i` of a table.
+pub fn word(table: &[u32], i: usize) -> usize
+    requires { ⌜ i < length (now table) ⌝ }
+    ensures { λ r. ⌜ r ≡ getD (now (table .entry)) i 0 ⌝ }
+{
+    wide(table[i])
 }

@@ -12,7 +12,8 @@ use lib.ListN.{length}
 use Rattle.text.specs.Bytes.{feed}
 use Rattle.text.specs.declared.utf8.Utf8.{Utf8}
 use Rattle.text.specs.declared.utf8.Utf8.the-variants.{Whole, Part, Broken}
-use Rattle.text.specs.Utf8.{lead, later, utf8Step, utf8, isWhole, wholeFront, bytesRead}
+use Rattle.text.specs.Utf8.{lead, later, utf8Step, utf8, isWhole, wholeFront}
+use Rattle.text.specs.Internal.{bytesRead}
 use Rattle.text.proofs.Choice.{cond-both}
 
 -- the two cases of `later`

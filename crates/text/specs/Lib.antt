@@ -2,3 +2,4 @@
 pub mod Switches
 pub mod Bytes
 pub mod Utf8
+pub mod Internal

@@ -76,9 +76,3 @@ listed (One a) = a ∷ []
 listed (Two a b) = a ∷ b ∷ []
 listed (Three a b c) = a ∷ b ∷ c ∷ []
 listed (Four a b c d) = a ∷ b ∷ c ∷ d ∷ []
-
--- how many bytes the machine has certainly read: what its code may count without wrapping
-unfoldable pub bytesRead : Utf8 → ℕ
-bytesRead (Whole n) = n
-bytesRead (Part n read more low high) = n + read
-bytesRead (Broken n) = n

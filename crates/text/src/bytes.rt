@@ -263,6 +263,7 @@ pub const CLASS: [u8; 256] = [
     10,
 ];
 
+// The number of a byte's class.
 pub fn class_of(b: u8) -> u8
     ensures { λ r. ⌜ r ≡ classNumber (classOf b) ⌝ }
 {

@@ -2,7 +2,8 @@
 ghost use mathlib.Core.Path.{_≡_};
 ghost use Prim.Native.Nat.{_≤_, _<_, _+_};
 ghost use lib.ListN.{length};
-ghost use Rattle.text.specs.Utf8.{lead, later, utf8Step, utf8, wholeFront, encode, bytesRead};
+ghost use Rattle.text.specs.Utf8.{lead, later, utf8Step, utf8, wholeFront, encode};
+ghost use Rattle.text.specs.Internal.{bytesRead};
 
 // Where the machine stands. Whole(n): n bytes, all of whole characters. Part: n bytes of whole characters, then `read` bytes of
 // a begun one; its next byte lies in low..high, and `more` bytes follow that. Broken(n): what follows the first n bytes is no

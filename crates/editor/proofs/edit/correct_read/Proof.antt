@@ -13,8 +13,8 @@ use Rattle.editor.proofs.edit.correct_read.Reads as reads
 use Rattle.editor.proofs.edit.correct_read.Lts as lts
 use Rattle.editor.proofs.edit.refusal.Reads as refusal-reads
 use Rattle.editor.proofs.edit.replace.Reads as replace-reads
-use Rattle.reader.proofs.keys.word.Reads as word-reads
 use Rattle.reader.proofs.read.one_value.Reads as one-value-reads
+use Rattle.reader.proofs.rows.word.Reads as word-reads
 
 -- src/edit.rt:137:9
 refusal-requires : tie.Need-refusal-requires

@@ -1,6 +1,7 @@
 use native.Mathlib.Omega.{arith}
 use borrow.Author.Tests.{le-leb, lt-leb, lt-ltb, le-ltb}
-use Rattle.text.specs.Utf8.{utf8Step, bytesRead}
+use Rattle.text.specs.Utf8.{utf8Step}
+use Rattle.text.specs.Internal.{bytesRead}
 use borrow.Author.Needs.{needs}
 use Rattle.text.proofs.utf8.utf8_step.Statement.{statement}
 use Rattle.text.proofs.utf8.utf8_step.Tie as tie
