@@ -10,7 +10,10 @@
  *     aligned for its element (to 4 bytes for the table);
  *   - a buffer that a call writes to must not overlap any other that the same
  *     call is given.
- * Nothing is kept between calls, and no memory is taken from the heap.
+ *   - the thread has stack enough: 64 KiB for a reading or a content, 128 KiB
+ *     for an undo, 256 KiB for a correction, beside the caller's own.
+ * Nothing is kept between calls, and no memory is taken from the heap. The
+ * archive is for x86-64 Linux.
  *
  * The numbers of refusal:
  *    1  the text is over 65,536 bytes; place 65536

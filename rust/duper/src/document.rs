@@ -144,7 +144,8 @@ impl Document {
 
     /// Takes back all corrections in force and gives their number: the text is
     /// then the first one, byte for byte. A refusal can only come of a journal
-    /// from elsewhere; the corrections taken back before it stay so.
+    /// from elsewhere, or of limits tighter than those that the corrections were
+    /// made with; the corrections taken back before it stay so.
     ///
     /// ```
     /// let mut document = duper::Document::read("[412.5, null]")?;

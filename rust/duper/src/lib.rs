@@ -7,7 +7,9 @@
 //! owns a text, its table and its journal, and lists the nodes.
 //!
 //! Any bytes may be handed in. Each call answers or gives a [`Refusal`]; none
-//! panics and nothing has to be checked first.
+//! panics and nothing has to be checked first. A thread needs stack enough, as
+//! the archive works there: 64 KiB for a reading, 256 KiB for a correction;
+//! Rust's own threads have 2 MiB. The archive is for x86-64 Linux.
 //!
 //! ```
 //! let mut document = duper::Document::read("[1, null]")?;

@@ -1,10 +1,9 @@
 //! What must hold of one reader's answers, whatever the other says.
 
+use second::ROW;
+
 use crate::random::Random;
 use crate::texts::{Case, Known};
-
-/// Words a row.
-const ROW: usize = 12;
 
 /// An answer in document 01's terms: a count, or a number and a place.
 pub type Answer = Result<usize, (u32, u64)>;

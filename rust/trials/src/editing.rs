@@ -2,14 +2,12 @@
 //! `second`, and single calls on any buffers against `second`.
 
 use second::book::{Call, Page};
-use second::Answer;
+use second::{Answer, ROW};
 
 use crate::histories::{history, History, Lent};
 use crate::random::Random;
 use crate::single::single;
 
-/// Words a row.
-const ROW: usize = 12;
 /// How many single calls go with each history.
 const SINGLE: usize = 8;
 

@@ -2,13 +2,11 @@
 //! says of it. Nothing here depends on the calls under trial.
 
 use second::book::{self, Book, Call, Page};
+use second::ROW;
 
 use crate::check::{rubbish, rubbish_bytes};
 use crate::random::Random;
 use crate::{texts, writer};
-
-/// Words a row.
-const ROW: usize = 12;
 
 /// Buffers as a caller lends them, with the lengths in use.
 #[derive(Debug, Clone, PartialEq, Eq)]

@@ -2,14 +2,12 @@
 //! them, any journal, any table. Nothing here depends on the calls under trial.
 
 use second::book::Call;
+use second::ROW;
 
 use crate::check::rubbish;
 use crate::histories::{first_text, front, node_number, replacement, string, written, Lent};
 use crate::random::Random;
 use crate::{texts, writer};
-
-/// Words a row.
-const ROW: usize = 12;
 
 /// One call on any buffers.
 pub fn single(random: &mut Random) -> (Lent, Call) {
