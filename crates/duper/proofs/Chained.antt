@@ -4,13 +4,13 @@
 use mathlib.Core.Path.{_≡_, refl, ap, ap₂, _∙_, subst}
 use Prim.Native.Nat.{ℕ}
 use mathlib.Core.List.{List, [], _∷_, map}
-use lib.ListN.{length, take, getD}
+use lib.ListN.{length, getD}
 use Rattle.text.specs.Switches.{presentEdition}
 use Rattle.editor.specs.Edit.{Lent, lentOf, Result, textOf, journalOf}
 use Rattle.editor.specs.Book.{Call, correction, undoing, handedOn, seenOf, called, calls, Demand3}
 use Rattle.editor.proofs.Demand3.{demand-3}
 use Rattle.editor.proofs.Shown.{called-long}
-use Rattle.duper.specs.Numbers.{changeNumber, changeWords, Crosses}
+use Rattle.duper.specs.Numbers.{changeWords, Crosses}
 use Rattle.duper.specs.Chain.{Made, Promised, leftBy, Chain, madeShows, bookShows, Demand3OfCalls}
 
 -- ---- one call

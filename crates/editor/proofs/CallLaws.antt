@@ -1,14 +1,14 @@
 -- What both calls share: the lengths, the reading, a new text on trial, and what is shown at the end.
 -- Assumes nothing.
 use mathlib.Core.Path.{_≡_, refl, sym, ap, ap₂, _∙_, subst}
-use Prim.Native.Nat.{ℕ, zero, suc, _+_, _-_, _<_, _≤_}
+use Prim.Native.Nat.{ℕ, zero, suc, _+_, _<_, _≤_}
 use native.Mathlib.Omega.{arith}
-use mathlib.Core.Bool.{Bool, true, false, cond, _||_}
-use mathlib.Core.List.{List, [], _∷_, _++_}
-use lib.Dec.{eqb, ltb}
+use mathlib.Core.Bool.{true, false, _||_}
+use mathlib.Core.List.{List, [], _∷_}
+use lib.Dec.{eqb}
 use lib.ListN.{length, take, drop, replicate}
 use lib.Seq.{take-take}
-use borrow.Author.Tests.{lt-ltb, le-ltb, eq-eqb, ne-eqb}
+use borrow.Author.Tests.{lt-ltb, le-ltb, ne-eqb}
 use Rattle.text.specs.declared.switches.Switches.{Switches}
 use Rattle.text.proofs.Choice.{cond-true, cond-false}
 use Rattle.reader.specs.Syntax.{Outcome, taken, refused}
@@ -21,7 +21,7 @@ use Rattle.editor.specs.declared.edit.Change.{Change}
 use Rattle.editor.specs.declared.trial.Tried.{Tried}
 use Rattle.editor.specs.declared.trial.Tried.the-variants as Y
 use Rattle.editor.specs.Edit.{Lent, Result, Shows, textOf, changeOf, verdictOf, badLength, lengthRefused, overwritten, answered, decided, onceRead}
-use Rattle.editor.specs.Internal.{changed, refusedWith, TableIs, TriesIs, Tries, ReadNow, opened, Stopped, OpensIs, Opens}
+use Rattle.editor.specs.Internal.{changed, refusedWith, TableIs, TriesIs, Tries, ReadNow, Stopped, OpensIs, Opens}
 use Rattle.editor.proofs.SpliceLaws.{take-overwritten}
 use Rattle.reader.proofs.NumberBound.{NumberWithin, number-law}
 

@@ -1,17 +1,17 @@
 -- A correction: one law for each way out.
 -- Assumes nothing.
-use mathlib.Core.Path.{_≡_, refl, sym, ap, ap₂, _∙_, subst}
+use mathlib.Core.Path.{_≡_, sym, ap, ap₂, _∙_, subst}
 use Prim.Native.Nat.{ℕ, _+_, _-_, _*_, _<_, _≤_, min}
 use native.Mathlib.Omega.{arith}
 use mathlib.Core.Bool.{Bool, true, false, not, cond}
 use mathlib.Core.List.{List, _++_}
-use lib.Dec.{leb, ltb}
-use lib.ListN.{length, take, drop, length-append}
+use lib.Dec.{ltb}
+use lib.ListN.{length, length-append}
 use lib.Seq.{length-take-le}
 use borrow.Author.Tests.{lt-ltb, le-ltb, lt-leb, le-leb}
 use Rattle.text.specs.declared.switches.Switches.{Switches}
 use Rattle.text.proofs.Choice.{cond-false}
-use Rattle.reader.specs.Reading.{reading, reads, nodeCount, tableOf, wordOf, oneValue}
+use Rattle.reader.specs.Reading.{reading, reads, nodeCount, wordOf, oneValue}
 use Rattle.reader.specs.Content.{part}
 use Rattle.reader.proofs.SpanLaws.{span-law}
 use Rattle.editor.specs.declared.edit.Verdict.the-variants as A

@@ -1,6 +1,6 @@
 -- The last entry of a journal: one law for each way out of its reading, and what each answer says.
 -- Assumes nothing.
-use mathlib.Core.Path.{_≡_, refl, sym, ap, ap₂, _∙_}
+use mathlib.Core.Path.{_≡_, refl, sym, ap, _∙_}
 use Prim.Native.Nat.{ℕ, _+_, _-_, _<_, _≤_}
 use native.Mathlib.Omega.{arith}
 use mathlib.Core.Bool.{Bool, true, false, cond, _||_}
@@ -8,7 +8,6 @@ use mathlib.Core.List.{List}
 use lib.Dec.{ltb, eqb}
 use lib.ListN.{length, drop}
 use borrow.Author.Tests.{lt-ltb, le-ltb, ltb-false, eq-eqb, ne-eqb, eqb-true, eqb-false}
-use Rattle.editor.specs.declared.journal.Entry.{Entry}
 use Rattle.editor.specs.declared.journal.Entry.the-variants as E
 use Rattle.editor.specs.Edit.{fromLe32, trailerNumber, entryStart, entryNew, entrySize, badEntry}
 use Rattle.editor.specs.Internal.{lastEntry}

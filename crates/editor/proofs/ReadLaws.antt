@@ -1,22 +1,21 @@
 -- What a text that reads promises, by one name each.
 -- Assumes nothing.
-use mathlib.Core.Path.{_≡_, refl, sym, ap, _∙_, subst}
-use Prim.Native.Nat.{ℕ, _+_, _*_, _<_, _≤_, min}
+use mathlib.Core.Path.{_≡_, refl, sym, _∙_}
+use Prim.Native.Nat.{ℕ, _+_, _*_, _<_, _≤_}
 use native.Mathlib.Omega.{arith}
 use native.Mathlib.Nat.{div-mul-le-self}
 use mathlib.Core.Bool.{Bool, true, false, cond, false≢true}
 use mathlib.Core.List.{List}
 use lib.Dec.{leb}
-use lib.ListN.{length, getD}
+use lib.ListN.{length}
 use borrow.Author.Tests.{leb-true}
 use Rattle.text.specs.declared.switches.Switches.{Switches}
 use Rattle.text.specs.Utf8.{utf8, isWhole, wholeFront}
 use Rattle.lexer.specs.Token.{tokens}
 use Rattle.reader.specs.declared.tree.Limits.{Limits}
-use Rattle.reader.specs.Syntax.{Outcome, taken, refused, run, before}
-use Rattle.reader.specs.Reading.{reading, reads, isTaken, outcome, limitsOf, limitsAlone, nodeCount, tableOf, wordOf, spans, oneValue, maxText}
-use Rattle.reader.proofs.SpanLaws.{span-law}
-use Rattle.reader.proofs.SizeLaws.{count-law, table-law}
+use Rattle.reader.specs.Syntax.{Outcome, refused, run, before}
+use Rattle.reader.specs.Reading.{reading, reads, isTaken, outcome, limitsOf, limitsAlone, nodeCount, spans, oneValue, maxText}
+use Rattle.reader.proofs.SizeLaws.{count-law}
 
 -- a text over 65,536 bytes is refused, whatever is asked
 short-or : (sw : Switches) (any : Bool) (limits : Limits) (t : List ℕ) (P : Outcome → Bool) → P (refused 1 maxText) ≡ false

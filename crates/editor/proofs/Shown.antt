@@ -10,11 +10,10 @@ use Rattle.text.proofs.Choice.{cond-both}
 use Rattle.reader.specs.Syntax.{Outcome, taken, refused}
 use Rattle.reader.specs.Reading.{reading}
 use Rattle.reader.proofs.SizeLaws.{table-law}
-use Rattle.editor.specs.declared.edit.Change.{Change}
 use Rattle.editor.specs.Edit.{Lent, lentOf, Result, Shows, changeOf, textOf, journalOf, badLength, lengthRefused, answered, decided, onceRead, correct, undo}
-use Rattle.editor.specs.Book.{Call, correction, undoing, Seen, handedOn, seenOf, called, calls, book, roomOf, Fresh, Demand3}
+use Rattle.editor.specs.Book.{Call, correction, undoing, handedOn, seenOf, called, calls, Demand3}
 use Rattle.editor.specs.Internal.{opened}
-use Rattle.editor.specs.Chain.{Made, Promised, Chain, Shown, madeShows, bookShows, Demand3OfCode}
+use Rattle.editor.specs.Chain.{Made, Promised, Chain, madeShows, bookShows, Demand3OfCode}
 use Rattle.editor.proofs.Demand3.{demand-3}
 
 -- ---- every table that is left is as long as the one that was lent

@@ -5,8 +5,8 @@ use Prim.Native.Nat.{ℕ, _+_, _-_, _<_, _≤_, min}
 use native.Mathlib.Omega.{arith}
 use mathlib.Core.Bool.{Bool, true, false, not, cond}
 use mathlib.Core.List.{List}
-use lib.Dec.{ltb, eqb}
-use lib.ListN.{length, take, drop}
+use lib.Dec.{eqb}
+use lib.ListN.{length, take}
 use lib.Seq.{length-take-le}
 use borrow.Author.Tests.{lt-ltb, le-ltb, eq-eqb, ne-eqb}
 use Rattle.text.specs.declared.switches.Switches.{Switches}
@@ -16,7 +16,7 @@ use Rattle.reader.specs.Content.{part}
 use Rattle.editor.specs.declared.journal.Entry.the-variants as E
 use Rattle.editor.specs.declared.edit.Verdict.the-variants as A
 use Rattle.editor.specs.declared.edit.Change.{Change}
-use Rattle.editor.specs.Edit.{Lent, Result, Shows, textOf, journalOf, badLength, splice, withText, noRoom, decided, entryStart, entryNew, entrySize, badEntry, oldBytes, undone, withUndo, undoRefusal, undo}
+use Rattle.editor.specs.Edit.{Lent, Result, Shows, textOf, journalOf, badLength, splice, withText, noRoom, decided, entrySize, oldBytes, undone, withUndo, undoRefusal, undo}
 use Rattle.editor.specs.Internal.{changed, TableIs, ReadNow, Stopped, lastEntry, LastIs}
 use Rattle.editor.proofs.SpliceLaws.{length-part, length-splice, take-withText}
 use Rattle.editor.proofs.BookLaws.{once-read}

@@ -1,7 +1,7 @@
 -- What only the contracts of this crate's inner functions cite, and of those that are public for its modules or for the crates above
 -- alone. Nothing below has to be believed: the other public contracts don't name it.
 -- Assumes nothing.
-use Prim.Native.Nat.{ℕ, _+_, _-_, _≤_}
+use Prim.Native.Nat.{ℕ, _+_, _≤_}
 use mathlib.Core.Path.{_≡_}
 use mathlib.Core.Bool.{true, false, not, cond}
 use mathlib.Core.List.{List}

@@ -2,7 +2,7 @@
 -- Assumes nothing.
 use Prim.Native.Nat.{ℕ, zero, suc, _≤_}
 use native.Mathlib.Omega.{arith}
-use mathlib.Core.Bool.{Bool, true, false, cond, _&&_}
+use mathlib.Core.Bool.{Bool, true, false, _&&_}
 use mathlib.Core.Option.{Option, none, some}
 use mathlib.Core.List.{List, [], _∷_}
 use lib.ListN.{take, drop}
@@ -11,7 +11,6 @@ use Rattle.text.specs.Bytes.{front, begins, is, ascii, Class, classOf, isWordBy
 use Rattle.text.proofs.Choice.{cond-both}
 use Rattle.literals.specs.declared.decoder.Body.{Body}
 use Rattle.literals.specs.declared.decoder.Body.the-variants as Y
-use Rattle.literals.specs.Content.{contentOf}
 use Rattle.literals.specs.declared.number.Meaning.{Meaning}
 use Rattle.literals.specs.declared.number.Meaning.the-variants as N
 use Rattle.literals.specs.Number.{number}

@@ -15,9 +15,8 @@ use Rattle.text.specs.declared.switches.Switches.{Switches}
 use Rattle.lexer.specs.declared.item.TokenKind.{TokenKind}
 use Rattle.lexer.specs.declared.item.Found.{Found}
 use Rattle.lexer.specs.declared.item.Found.the-variants as F
-use Rattle.lexer.specs.declared.item.Next.{Next}
 use Rattle.lexer.specs.declared.item.Next.the-variants as X
-use Rattle.lexer.specs.Token.{Form, Item, gap, token, fault, item, Token, Tokens, next, end, afterItem, cut, itemAt, tokensFrom}
+use Rattle.lexer.specs.Token.{Form, Item, gap, token, fault, item, Tokens, next, end, afterItem, cut, itemAt, tokensFrom}
 use Rattle.lexer.specs.Answer.{kindOf, found, foundAt, firstOf}
 use Rattle.lexer.proofs.TokenLaws.{EndsBy, item-ends, itemAt-ends, cut-left, cut-end, cut-within, from-gap, from-token, from-fault, Within}
 

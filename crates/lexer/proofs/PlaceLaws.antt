@@ -8,12 +8,12 @@ use native.Mathlib.Omega.{arith}
 use mathlib.Core.Bool.{Bool, true, false, cond, _&&_, _||_, false≢true}
 use mathlib.Core.Option.{Option, none, some}
 use mathlib.Core.List.{List, [], _∷_}
-use lib.Dec.{T, eqb, ltb}
+use lib.Dec.{T, eqb}
 use lib.ListN.{length, take, drop, getD, length-drop}
 use lib.Seq.{drop-cons, drop-drop, getD-drop}
 use borrow.Author.Tests.{eq-eqb, ne-eqb, lt-ltb, le-ltb}
 use Rattle.text.specs.declared.switches.Switches.{Switches}
-use Rattle.text.specs.Bytes.{front, begins, is, ascii, Class, classOf, classNumber, isWordByte, isNumberByte}
+use Rattle.text.specs.Bytes.{front, begins, is, Class, classOf, classNumber, isWordByte, isNumberByte}
 use Rattle.text.proofs.ClassLaws.{classAt, class-by}
 use Rattle.literals.specs.declared.decoder.Body.{Body}
 use Rattle.literals.specs.declared.decoder.Body.the-variants as Y
@@ -23,12 +23,11 @@ use Rattle.literals.specs.declared.number.Meaning.{Meaning}
 use Rattle.literals.specs.Number.{number}
 use Rattle.literals.specs.Word.{hasShape}
 use Rattle.lexer.specs.declared.closing.Closing.the-variants as C
-use Rattle.lexer.specs.declared.closing.Block.the-variants as B
 use Rattle.lexer.specs.declared.item.TokenKind.the-variants as K
 use Rattle.lexer.specs.declared.item.Found.{Found}
 use Rattle.lexer.specs.declared.item.Found.the-variants as F
 use Rattle.lexer.specs.Closing.{closing, block, notNewline}
-use Rattle.lexer.specs.Token.{Item, gap, token, fault, blockItem, comment, contentItem, closedItem, hasEscapes, stringItem, stringForm, hashCount, rawItem, opensRaw, wordItem, meantItem, numberItem, smallItem, itemOf, item, itemAt}
+use Rattle.lexer.specs.Token.{fault, blockItem, comment, contentItem, closedItem, hasEscapes, stringItem, hashCount, rawItem, opensRaw, wordItem, meantItem, numberItem, smallItem, itemOf, item, itemAt}
 use Rattle.lexer.specs.Answer.{kindOf, found, foundAt}
 use Rattle.lexer.specs.Internal.{stringFound}
 use Rattle.lexer.proofs.TokenLaws.{front-le, begins-le}

@@ -1,11 +1,11 @@
 -- The loop over a run: what `front` is one byte further on, at a byte that ends the run, and at the end. The bytes of words, by ranges.
 -- Assumes nothing.
-use mathlib.Core.Path.{_≡_, refl, sym, ap, _∙_}
-use Prim.Native.Nat.{ℕ, zero, suc, _+_, _≤_, _<_}
+use mathlib.Core.Path.{_≡_, refl, sym}
+use Prim.Native.Nat.{ℕ, _+_, _≤_, _<_}
 use native.Mathlib.Numerals.{add-one}
 use native.Mathlib.Omega.{arith}
 use mathlib.Core.Bool.{Bool, true, false, not, cond}
-use mathlib.Core.List.{List, [], _∷_}
+use mathlib.Core.List.{List}
 use lib.Dec.{T, leb, ltb, eqb}
 use lib.ListN.{length, drop, getD, drop-of-length-le, replicate, length-replicate}
 use lib.Seq.{drop-cons}

@@ -5,7 +5,7 @@ use mathlib.Core.Path.{_≡_, refl, sym, ap, _∙_, subst}
 use Prim.Native.Nat.{ℕ, zero, suc, _+_, _-_, _≤_, _<_, zero-le, suc-le-suc}
 use native.Mathlib.Nat.{add-zero, suc-add, add-suc, le-refl, le-trans}
 use native.Mathlib.Omega.{arith}
-use mathlib.Core.Bool.{Bool, true, false, not, cond, _&&_}
+use mathlib.Core.Bool.{Bool, true, false, _&&_}
 use mathlib.Core.Option.{Option, none, some}
 use mathlib.Core.List.{List, [], _∷_}
 use lib.Dec.{T, eqb}
@@ -28,7 +28,7 @@ use Rattle.lexer.specs.declared.closing.Block.the-variants as B
 use Rattle.lexer.specs.Closing.{closing, block, notNewline}
 use Rattle.lexer.specs.Internal.{blockRead}
 use Rattle.lexer.proofs.ClosingLaws.{closingBytes, closing-le, block-le}
-use Rattle.lexer.specs.Token.{Form, Item, gap, token, fault, blockItem, comment, contentItem, closedItem, hasEscapes, stringItem, stringForm, hashCount, rawItem, opensRaw, wordItem, meantItem, numberItem, smallItem, itemOf, item, Tokens, next, end, afterItem, cut, tokens, itemAt, tokensFrom}
+use Rattle.lexer.specs.Token.{Form, Item, gap, token, fault, blockItem, comment, contentItem, closedItem, hasEscapes, stringItem, hashCount, rawItem, opensRaw, wordItem, meantItem, numberItem, smallItem, itemOf, item, Tokens, next, end, afterItem, cut, tokens, itemAt, tokensFrom}
 
 pub front-le : (p : ℕ → Bool) (s : List ℕ) → front p s ≤ length s
 unfolding front

@@ -12,7 +12,7 @@ use Rattle.lexer.specs.declared.item.Found.{Found}
 use Rattle.lexer.specs.declared.item.Found.the-variants as F
 use Rattle.lexer.specs.declared.item.Next.{Next}
 use Rattle.lexer.specs.declared.item.Next.the-variants as X
-use Rattle.lexer.specs.Token.{Form, mark, word, text, bytes, integer, decimal, Item, gap, token, fault, Tokens, next, end, itemAt, tokensFrom}
+use Rattle.lexer.specs.Token.{Form, mark, word, text, bytes, integer, decimal, Item, gap, token, fault, Tokens, next, end, itemAt}
 
 -- a token's form with its value; of a string, the length of its content
 unfoldable pub kindOf : Form → TokenKind

@@ -1,9 +1,9 @@
 // Where a string token and a block comment end.
 ghost use mathlib.Core.Path.{_≡_};
-ghost use Prim.Native.Nat.{ℕ, _≤_, _<_, _+_};
+ghost use Prim.Native.Nat.{ℕ, _<_, _+_};
 ghost use mathlib.Core.Bool.{not, _||_};
 ghost use lib.Dec.{eqb};
-ghost use lib.ListN.{length, drop};
+ghost use lib.ListN.{drop};
 ghost use Rattle.text.specs.Bytes.{front};
 ghost use Rattle.lexer.specs.Closing.{afterQuote, afterOther, closingStep, closing, blockStep, block};
 ghost use Rattle.lexer.specs.Internal.{closingRead, isClosed, blockRead, isShut};

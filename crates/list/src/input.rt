@@ -1,5 +1,4 @@
 // The text's bytes, from a descriptor.
-ghost use lib.ListN.{length};
 ghost use Rattle.io.specs.Counts.{Counts};
 
 // How many bytes came, and whether they are all: false after a read that failed.

@@ -16,7 +16,7 @@ use Rattle.text.specs.Utf8.{listed}
 use Rattle.literals.specs.declared.decoder.Body.{Body}
 use Rattle.literals.specs.declared.decoder.Body.the-variants.{Quoted, Raw, Word}
 use Rattle.literals.specs.declared.decoder.Decoder.{Decoder}
-use Rattle.literals.specs.declared.decoder.Decoder.the-variants.{Plain, Verbatim, Letters, Bad}
+use Rattle.literals.specs.declared.decoder.Decoder.the-variants.{Plain, Verbatim, Bad}
 use Rattle.literals.specs.Content.{gives, quotedRefuses, plainStep, rawRefuses, rawStep, decodeStep, mayEnd, prepend, decoded, startOf, content, sameContent}
 use Rattle.literals.specs.InternalContent.{Steady, SteadyIf, FrontApart, Apart}
 use Rattle.literals.proofs.StepLaws.{decoded-turn}

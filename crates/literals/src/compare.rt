@@ -3,7 +3,6 @@ ghost use mathlib.Core.Path.{_≡_};
 ghost use Rattle.literals.specs.Content.{content, sameContent};
 ghost use Rattle.literals.specs.InternalContent.{Sound, SteadyIf, FrontApart, Apart, Pieced, cursorAt};
 use crate::decoder::Body;
-use crate::decoder::Decoded;
 use crate::decoder::Decoder;
 use crate::decoder::decode_step;
 use crate::decoder::may_end;

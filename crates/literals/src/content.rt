@@ -5,8 +5,6 @@ ghost use lib.ListN.{length};
 ghost use Rattle.literals.specs.Content.{content, contentOf, measured, fitted, placed};
 ghost use Rattle.literals.specs.InternalContent.{HasRoom, PlainFront, AsWritten};
 use crate::decoder::Body;
-use crate::decoder::Decoded;
-use crate::decoder::Decoder;
 use crate::decoder::decode_step;
 use crate::decoder::may_end;
 use crate::decoder::start_of;
@@ -15,7 +13,6 @@ use crate::few::few_len;
 use crate::few::is_whole;
 use crate::few::put_few;
 use text::switches::Switches;
-use text::utf8::Few;
 use text::utf8::Utf8;
 
 // How long a body's content is, or that it has none.

@@ -2,14 +2,14 @@
 -- Assumes nothing.
 use mathlib.Core.Path.{_≡_, refl, ap, sym, subst, _∙_}
 use mathlib.Core.List.{List, [], _∷_, _++_}
-use mathlib.Core.Option.{Option, none, some}
-use mathlib.Core.Bool.{Bool, true, false, cond, _&&_, false≢true}
-use Prim.Native.Nat.{ℕ, zero, suc, _+_, _-_, _*_, _<_, _≤_}
+use mathlib.Core.Option.{Option, none}
+use mathlib.Core.Bool.{Bool, true, false, _&&_}
+use Prim.Native.Nat.{ℕ, suc, _+_, _*_, _<_, _≤_}
 use native.Mathlib.Numerals.{add-one}
 use native.Mathlib.Omega.{arith}
-use lib.Dec.{eqb, leb}
+use lib.Dec.{leb}
 use lib.ListN.{length, getD}
-use lib.Seq.{sets, length-sets}
+use lib.Seq.{sets}
 use borrow.Author.Tests.{ne-eqb, le-leb, lt-leb, leb-false}
 use Rattle.text.specs.declared.switches.Switches.{Switches}
 use Rattle.lexer.specs.declared.item.TokenKind.{TokenKind}
@@ -22,11 +22,10 @@ use Rattle.reader.specs.declared.items.After.{After}
 use Rattle.reader.specs.declared.items.After.the-variants as X
 use Rattle.reader.specs.declared.values.Answer.{Answer}
 use Rattle.reader.specs.declared.values.Answer.the-variants as A
-use Rattle.reader.specs.Tree.{Span, Tree, branch, Forest, nil, snoc, count, size, sizes, headOf, kindNumber, rows, rowsAll}
-use Rattle.reader.specs.Syntax.{Label, label, Frame, frame, Slot, first, after, more, Mode, value, inside, Config, config, Step, go, refuse, refuseIf, container, isObject, headBy, ended, finished, noNode, counted, valueStep, Outcome, refused, afterStep}
-use Rattle.reader.specs.Internal.Tokens.{tokenAt}
+use Rattle.reader.specs.Tree.{Span, branch, Forest, nil, snoc, count, size, sizes, headOf, kindNumber, rows, rowsAll}
+use Rattle.reader.specs.Syntax.{Label, label, Frame, frame, Slot, after, more, Mode, value, inside, Config, config, refuseIf, container, isObject, headBy, ended, finished, noNode, counted, valueStep, Outcome, afterStep}
 use Rattle.reader.specs.Internal.Values
-use Rattle.reader.specs.Internal.Values.{spanAt, labelOf, Sane, rowWords, runFrom, nodesAt, opened, openedHere, Chain, Chained, slotOf, innerAt, Known, Look, Valued, Ends, Refuses, ItemIs, NextIs, Fit, Took, Stops, Ran, RanIs}
+use Rattle.reader.specs.Internal.Values.{spanAt, labelOf, Sane, rowWords, runFrom, nodesAt, opened, openedHere, Chain, slotOf, innerAt, Known, Look, Valued, Ends, Refuses, ItemIs, NextIs, Took, Stops, Ran, RanIs}
 use Rattle.reader.proofs.SizeLaws.{sizes-snoc, count-snoc}
 use Rattle.reader.proofs.KeyWalk.{chain-more, getD-sets}
 use Rattle.reader.proofs.RowLaws.{glue, crown, size-pos, row-says}

@@ -1,35 +1,34 @@
 -- What the functions of src/items.rt have found, one law for each way out.
 -- Assumes nothing.
 use mathlib.Core.Path.{_≡_, refl, sym, ap, _∙_, subst}
-use Prim.Native.Nat.{ℕ, zero, suc, _+_, _-_, _≤_, _<_}
-use Prim.Native.Char.{Char, code}
+use Prim.Native.Nat.{ℕ, suc, _-_, _≤_, _<_}
 use native.Mathlib.Omega.{arith}
-use mathlib.Core.Bool.{Bool, true, false, cond, _&&_, _||_, false≢true}
+use mathlib.Core.Bool.{Bool, true, false, _&&_, false≢true}
 use mathlib.Core.Option.{Option, none, some}
 use mathlib.Core.List.{List, [], _∷_, _++_}
 use lib.Dec.{eqb}
 use lib.ListN.{length, take, drop}
-use borrow.Author.Tests.{eq-eqb, ne-eqb}
+use borrow.Author.Tests.{ne-eqb}
 use Rattle.text.specs.declared.switches.Switches.{Switches}
 use Rattle.lexer.specs.declared.item.TokenKind.{TokenKind}
 use Rattle.lexer.specs.declared.item.TokenKind.the-variants as K
 use Rattle.lexer.specs.declared.item.Next.the-variants as N
 use Rattle.lexer.specs.Token as L
-use Rattle.lexer.specs.Token.{Form, Token, Tokens, itemAt, tokensFrom, tokenContent, keyContent}
+use Rattle.lexer.specs.Token.{Form, tokensFrom, tokenContent, keyContent}
 use Rattle.lexer.specs.Answer.{kindOf, firstOf}
 use Rattle.lexer.proofs.AloneLaws.{token-alone}
 use Rattle.reader.specs.declared.tree.Kind.{Kind}
-use Rattle.reader.specs.declared.tree.Kind.the-variants.{Object, Array, Tuple}
+use Rattle.reader.specs.declared.tree.Kind.the-variants.{Object}
 use Rattle.reader.specs.declared.tree.Limits.{Limits}
 use Rattle.reader.specs.declared.items.Only.{Only}
 use Rattle.reader.specs.declared.items.Item.{Item}
 use Rattle.reader.specs.declared.items.Item.the-variants as I
-use Rattle.reader.specs.Tree.{Span, Tree, branch, Forest}
-use Rattle.reader.specs.Syntax.{Label, label, Frame, frame, Slot, first, lone, after, more, Mode, value, inside, colon, Config, config, Step, go, refuse, begins, spanOf, isMark, isObject, closer, keyOf, headBy, ended, refuseIf, holds, keyStep, emptyByComma, childStep, modeStep, step, goTo, Outcome, refused, atEnd, afterStep, run}
-use Rattle.reader.specs.Internal.Tokens.{formOf, formAt, tokenAt, TokenAt}
+use Rattle.reader.specs.Tree.{Span, branch, Forest}
+use Rattle.reader.specs.Syntax.{Label, Frame, frame, lone, after, more, value, inside, colon, config, go, spanOf, isMark, isObject, closer, keyOf, headBy, ended, refuseIf, holds, keyStep, emptyByComma, childStep, modeStep, step, atEnd}
+use Rattle.reader.specs.Internal.Tokens.{formAt, tokenAt, TokenAt}
 use Rattle.reader.specs.Internal.Values
-use Rattle.reader.specs.Internal.Values.{spanAt, runFrom, openedHere, Peeked, markIs, isKey, closerByte, Marked, Wants, NotMarked, OnlyIs, OnlyOne, KeyAt, KeyHere, Chain, FoundKey, bytesAt, slotOf, innerAt, Known, Look, Valued, Ends, Refuses, ItemIs, FieldAt, AfterKeyIs, AfterKey}
-use Rattle.reader.proofs.StepRun.{not-mark, peek-go, peek-refuse, mark-go, end-run, fault-run, mark-kind, is-mark, closer-mark, slot-either, close-step, comma-step, after-step, lone-step, lone-wants, child-step, value-opens, child-opens, item-closes}
+use Rattle.reader.specs.Internal.Values.{spanAt, runFrom, openedHere, Peeked, markIs, isKey, closerByte, Marked, Wants, NotMarked, OnlyIs, OnlyOne, KeyHere, FoundKey, slotOf, innerAt, Known, Look, Valued, Ends, Refuses, ItemIs, FieldAt, AfterKeyIs}
+use Rattle.reader.proofs.StepRun.{not-mark, peek-go, peek-refuse, mark-go, end-run, fault-run, is-mark, closer-mark, close-step, comma-step, after-step, lone-step, lone-wants, child-step, value-opens, child-opens, item-closes}
 
 and-first : (a b : Bool) → (a && b) ≡ true → a ≡ true
 and-first true b e = refl

@@ -1,21 +1,21 @@
 -- The walk over the keys of an object's children: what it has passed, and one child more.
 -- Assumes nothing.
 use mathlib.Core.Path.{_≡_, refl, sym, ap, _∙_, subst}
-use Prim.Native.Nat.{ℕ, zero, suc, _+_, _-_, _*_, _<_, _≤_}
+use Prim.Native.Nat.{ℕ, zero, suc, _+_, _*_, _<_, _≤_}
 use native.Mathlib.Nat.{add-zero}
 use native.Mathlib.Omega.{arith}
-use mathlib.Core.Bool.{Bool, true, false, cond, _||_}
-use mathlib.Core.Option.{Option, none, some}
+use mathlib.Core.Bool.{Bool, true, false, _||_}
+use mathlib.Core.Option.{some}
 use mathlib.Core.List.{List, [], _∷_, _++_}
-use lib.ListN.{length, getD, set, length-set, take, drop}
-use lib.Seq.{sets, length-sets, getD-set-same, getD-set-other}
+use lib.ListN.{length, getD, set, length-set}
+use lib.Seq.{sets, getD-set-same, getD-set-other}
 use Rattle.text.specs.declared.switches.Switches.{Switches}
 use Rattle.text.specs.Bytes.{sameBytes}
 use Rattle.literals.specs.Content.{sameContent}
 use Rattle.lexer.specs.Token.{tokenContent}
 use Rattle.lexer.specs.Internal.{Keyed}
 use Rattle.reader.specs.Syntax.{holds}
-use Rattle.reader.specs.Internal.Values.{bytesAt, KeyAt, KeyHere, Link, Chain, Chained, FoundKey}
+use Rattle.reader.specs.Internal.Values.{bytesAt, KeyAt, Link, Chain, Chained, FoundKey}
 
 some-is : {a b : List ℕ} → some a ≡ some b → a ≡ b
 some-is e = cc

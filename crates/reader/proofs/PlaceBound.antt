@@ -1,18 +1,18 @@
 -- A refusal's place lies within the text, or is 65536: so it can be packed with its number.
 -- Assumes nothing.
-use mathlib.Core.Path.{_≡_, refl, sym, ap, _∙_, subst}
-use Prim.Native.Nat.{ℕ, suc, _+_, _≤_, _<_}
+use mathlib.Core.Path.{_≡_, refl}
+use Prim.Native.Nat.{ℕ, _≤_}
 use native.Mathlib.Omega.{arith}
-use mathlib.Core.Bool.{Bool, true, false, cond}
+use mathlib.Core.Bool.{Bool, true, false}
 use mathlib.Core.List.{List}
-use lib.Dec.{T, leb, leb→le}
+use lib.Dec.{leb, leb→le}
 use lib.ListN.{length}
 use Rattle.text.specs.declared.switches.Switches.{Switches}
 use Rattle.text.specs.Utf8.{utf8, isWhole, wholeFront}
 use Rattle.text.proofs.Utf8Laws.{utf8-whole, utf8-less}
 use Rattle.text.proofs.Choice.{cond-both}
 use Rattle.lexer.specs.Token as L
-use Rattle.lexer.specs.Token.{Token, Tokens, tokens}
+use Rattle.lexer.specs.Token.{Tokens, tokens}
 use Rattle.lexer.proofs.TokenLaws.{Within, tokens-within}
 use Rattle.reader.specs.declared.tree.Limits.{Limits}
 use Rattle.reader.specs.Syntax.{Mode, value, named, inner, close, inside, colon, done, Config, Step, go, refuse, step, Outcome, taken, refused, atEnd, afterStep, run, before}

@@ -1,32 +1,30 @@
 -- The whole text: what its reading has answered and written, one law for each way out.
 -- Assumes nothing.
 use mathlib.Core.Path.{_≡_, refl, ap, sym, subst, _∙_}
-use mathlib.Core.List.{List, [], _∷_, _++_}
-use mathlib.Core.Option.{Option, none, some}
-use mathlib.Core.Bool.{Bool, true, false, cond, _&&_, true≢false, false≢true}
-use Prim.Native.Nat.{ℕ, zero, suc, _+_, _-_, _*_, _/_, _<_, _≤_, min}
-use native.Mathlib.Nat.{zero-add, sub-zero, min-eq-left, min-eq-right}
+use mathlib.Core.List.{List, [], _++_}
+use mathlib.Core.Option.{none}
+use mathlib.Core.Bool.{Bool, true, false, _&&_}
+use Prim.Native.Nat.{ℕ, zero, suc, _-_, _*_, _/_, _<_, _≤_}
+use native.Mathlib.Nat.{zero-add, sub-zero}
 use native.Mathlib.Omega.{arith}
-use lib.Dec.{eqb, leb}
+use lib.Dec.{eqb}
 use lib.ListN.{length, replicate, drop, length-replicate}
 use lib.Seq.{sets, sets-eq}
-use borrow.Author.Tests.{le-leb, lt-leb, eq-eqb, ne-eqb}
+use borrow.Author.Tests.{le-leb, lt-leb}
 use Rattle.text.specs.declared.switches.Switches.{Switches}
 use Rattle.text.specs.Utf8.{utf8, isWhole, wholeFront}
 use Rattle.text.proofs.Utf8Laws.{utf8-whole, utf8-less}
 use Rattle.lexer.specs.declared.item.TokenKind.{TokenKind}
 use Rattle.lexer.specs.declared.item.Next.the-variants as N
-use Rattle.lexer.specs.Token as L
 use Rattle.lexer.specs.Token.{tokens, tokensFrom}
 use Rattle.lexer.specs.Answer.{firstOf}
 use Rattle.reader.specs.declared.tree.Limits.{Limits}
 use Rattle.reader.specs.declared.read.Whole.{Whole}
 use Rattle.reader.specs.declared.read.Whole.the-variants as W
-use Rattle.reader.specs.declared.read.Reading.{Reading}
 use Rattle.reader.specs.declared.read.Reading.the-variants as R
-use Rattle.reader.specs.Tree.{Tree, size, headOf, rows, noParent, padded}
-use Rattle.reader.specs.Syntax.{label, Frame, value, done, Config, config, go, refuse, ended, finished, modeStep, step, Outcome, taken, refused, atEnd, run, before}
-use Rattle.reader.specs.Reading.{maxText, nodeLimit, limitsOf, limitsAlone, outcome, reading, tableOf, answerOf, spans, oneValue}
+use Rattle.reader.specs.Tree.{rows, noParent, padded}
+use Rattle.reader.specs.Syntax.{label, value, done, config, ended, finished, modeStep, step, Outcome, refused, atEnd, run, before}
+use Rattle.reader.specs.Reading.{nodeLimit, limitsOf, limitsAlone, outcome, reading, tableOf, answerOf, spans, oneValue}
 use Rattle.reader.specs.Internal.Values.{spanAt, runFrom, openedHere, Peeked, Took, Stops}
 use Rattle.reader.specs.Internal.Whole.{TreeRead, TreeIs, WholeAt, JudgedAt}
 use Rattle.reader.proofs.TableLaws.{length-rows}

@@ -3,20 +3,18 @@
 use mathlib.Core.Path.{_≡_, refl, ap, sym, _∙_}
 use mathlib.Core.List.{List, [], _∷_, _++_}
 use mathlib.Core.Option.{Option, none, some}
-use mathlib.Core.Bool.{Bool, true, false, cond}
-use Prim.Native.Nat.{ℕ, zero, suc, _+_, _-_, _*_, _<_, _≤_}
+use Prim.Native.Nat.{ℕ, zero, suc, _+_, _*_, _<_, _≤_}
 use native.Mathlib.Nat.{add-zero}
 use native.Mathlib.Numerals.{add-one}
 use native.Mathlib.Omega.{arith}
-use lib.Dec.{eqb}
-use lib.ListN.{length, set, getD, length-append}
-use lib.Seq.{sets, set-comm, length-sets}
-use borrow.Author.Tests.{eq-eqb, ne-eqb, eqb-true}
+use lib.ListN.{length, set, getD}
+use lib.Seq.{sets, set-comm}
+use borrow.Author.Tests.{ne-eqb}
 use Rattle.reader.specs.declared.tree.Kind.{Kind}
 use Rattle.reader.specs.declared.tree.Leaf.{Leaf}
 use Rattle.reader.specs.declared.tree.Spans.{Spans}
-use Rattle.reader.specs.Tree.{Span, Head, Scalar, text, bytes, integer, decimal, falseValue, trueValue, nullValue, Tree, leaf, branch, Forest, nil, cons, snoc, count, size, sizes, headOf, spanWords, headWords, kindNumber, scalarNumber, scalarWords, rows, rowsAll}
-use Rattle.reader.specs.Syntax.{Label, label, headBy, stopAt, withStop}
+use Rattle.reader.specs.Tree.{Span, Scalar, text, bytes, integer, decimal, falseValue, trueValue, nullValue, Tree, leaf, branch, Forest, snoc, count, size, sizes, headOf, spanWords, headWords, kindNumber, scalarNumber, scalarWords, rows, rowsAll}
+use Rattle.reader.specs.Syntax.{headBy, stopAt, withStop}
 use Rattle.reader.specs.Internal.Tokens.{leafOf}
 use Rattle.reader.specs.Internal.Values.{spanAt, labelOf, Sane, rowWords}
 use Rattle.reader.proofs.TableLaws.{length-rows, length-rowsAll}

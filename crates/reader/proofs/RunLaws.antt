@@ -11,7 +11,7 @@ use Rattle.lexer.proofs.TokenLaws.{from-gap, from-token, from-fault, from-end}
 use Rattle.lexer.proofs.SeamLaws.{cutToken}
 use Rattle.reader.specs.Internal.Values.{runFrom}
 use Rattle.reader.specs.declared.tree.Limits.{Limits}
-use Rattle.reader.specs.Syntax.{Config, go, refuse, step, Outcome, refused, atEnd, afterStep, run}
+use Rattle.reader.specs.Syntax.{Config, go, refuse, step, refused, atEnd, afterStep, run}
 
 module _ (sw : Switches) where
   pub run-start : (limits : Limits) (s : List ℕ) (c : Config) → run sw limits (tokens sw s) c ≡ runFrom sw limits s 0 c

@@ -1,31 +1,28 @@
 -- The machine's run by what the code has peeked at: one token's step, and what a container's slots do with a token.
 -- Assumes nothing.
 use mathlib.Core.Path.{_≡_, refl, sym, ap, _∙_, subst}
-use Prim.Native.Nat.{ℕ, zero, suc, _+_, _-_, _≤_, _<_}
+use Prim.Native.Nat.{ℕ, suc, _-_, _≤_}
 use Prim.Native.Char.{Char, code}
-use native.Mathlib.Omega.{arith}
 use mathlib.Core.Bool.{Bool, true, false, cond, _&&_, false≢true}
 use mathlib.Core.Option.{Option, none, some}
-use mathlib.Core.List.{List, [], _∷_, _++_}
+use mathlib.Core.List.{List, _∷_}
 use lib.Dec.{eqb}
-use lib.ListN.{length, take, drop}
+use lib.ListN.{length}
 use borrow.Author.Tests.{eq-eqb, ne-eqb, eqb-true}
 use Rattle.text.specs.declared.switches.Switches.{Switches}
 use Rattle.lexer.specs.declared.item.TokenKind.{TokenKind}
-use Rattle.lexer.specs.declared.item.TokenKind.the-variants as K
 use Rattle.lexer.specs.declared.item.Next.the-variants as N
 use Rattle.lexer.specs.Token as L
-use Rattle.lexer.specs.Token.{Form, Token, Tokens, itemAt, tokensFrom, tokenContent, keyContent}
+use Rattle.lexer.specs.Token.{Form, Token, Tokens, tokensFrom}
 use Rattle.lexer.specs.Answer.{kindOf, firstOf}
-use Rattle.lexer.proofs.NextLaws.{Ahead, next-ahead, next-end, next-fault}
-use Rattle.lexer.proofs.AloneLaws.{token-alone}
+use Rattle.lexer.proofs.NextLaws.{next-ahead, next-end, next-fault}
 use Rattle.reader.specs.declared.tree.Kind.{Kind}
 use Rattle.reader.specs.declared.tree.Kind.the-variants.{Object, Array, Tuple}
 use Rattle.reader.specs.declared.tree.Limits.{Limits}
-use Rattle.reader.specs.Tree.{Span, Tree, branch, Forest}
-use Rattle.reader.specs.Syntax.{Label, label, Frame, frame, Slot, first, lone, after, more, Mode, value, inside, colon, Config, config, Step, go, refuse, Begins, container, scalar, identifier, nothing, begins, spanOf, isMark, isComma, isObject, closer, keyOf, headBy, ended, refuseIf, holds, keyStep, closeOr, emptyByComma, noNode, counted, valueStep, freshValue, childStep, slotStep, modeStep, step, goTo, Outcome, refused, atEnd, afterStep, run}
+use Rattle.reader.specs.Tree.{Span, branch, Forest}
+use Rattle.reader.specs.Syntax.{Label, label, Frame, frame, Slot, first, lone, after, more, Mode, value, inside, Config, config, Step, go, refuse, Begins, container, scalar, identifier, nothing, begins, spanOf, isMark, isObject, closer, keyOf, headBy, ended, keyStep, closeOr, emptyByComma, noNode, counted, valueStep, freshValue, childStep, slotStep, modeStep, step, refused, atEnd, afterStep, run}
 use Rattle.reader.specs.Internal.Tokens.{formOf, formAt, tokenAt, TokenAt}
-use Rattle.reader.specs.Internal.Values.{spanAt, runFrom, opened, openedHere, Peeked, markIs, isKey, closerByte, Marked, Wants, NotMarked, KeyAt, bytesAt, slotOf, innerAt}
+use Rattle.reader.specs.Internal.Values.{runFrom, opened, openedHere, Peeked, markIs, closerByte, Marked, Wants, NotMarked, slotOf, innerAt}
 
 -- ---- what `next_token` has found
 

@@ -1,34 +1,31 @@
 -- Values, identifiers, and the value in an identifier's brackets: what their readers have done, one law for each way out.
 -- Assumes nothing.
 use mathlib.Core.Path.{_≡_, refl, ap, sym, subst, _∙_}
-use mathlib.Core.List.{List, [], _∷_, _++_}
+use mathlib.Core.List.{List}
 use mathlib.Core.Option.{Option, none, some}
-use mathlib.Core.Bool.{Bool, true, false, not, cond, _&&_, false≢true}
-use Prim.Native.Nat.{ℕ, zero, suc, _+_, _-_, _*_, _<_, _≤_}
-use native.Mathlib.Numerals.{add-one}
+use mathlib.Core.Bool.{Bool, true, false, not, _&&_}
+use Prim.Native.Nat.{ℕ, suc, _+_, _*_, _<_, _≤_}
 use native.Mathlib.Omega.{arith}
-use lib.Dec.{eqb, leb}
-use lib.ListN.{length, getD, set}
+use lib.Dec.{leb}
+use lib.ListN.{length, set}
 use lib.Seq.{sets}
-use borrow.Author.Tests.{ne-eqb, le-leb, lt-leb, leb-false}
+use borrow.Author.Tests.{le-leb, lt-leb}
 use Rattle.text.specs.declared.switches.Switches.{Switches}
 use Rattle.lexer.specs.declared.item.TokenKind.{TokenKind}
 use Rattle.lexer.specs.declared.item.Next.the-variants as N
-use Rattle.lexer.specs.Token as L
-use Rattle.lexer.specs.Token.{Token, Tokens, tokensFrom}
+use Rattle.lexer.specs.Token.{tokensFrom}
 use Rattle.lexer.specs.Answer.{firstOf}
 use Rattle.reader.specs.declared.tree.Kind.{Kind}
 use Rattle.reader.specs.declared.tree.Leaf.{Leaf}
 use Rattle.reader.specs.declared.tree.Limits.{Limits}
 use Rattle.reader.specs.declared.tree.Spans.{Spans}
 use Rattle.reader.specs.declared.tree.Begin.{Begin}
-use Rattle.reader.specs.declared.tree.Begin.the-variants as B
 use Rattle.reader.specs.declared.values.Answer.{Answer}
 use Rattle.reader.specs.declared.values.Answer.the-variants as A
-use Rattle.reader.specs.Tree.{Span, Scalar, Tree, leaf, branch, Forest, size, sizes, headOf, rows}
-use Rattle.reader.specs.Syntax.{Label, label, Frame, frame, Mode, value, named, inner, close, Config, config, Step, go, refuse, refuseIf, Begins, container, scalar, identifier, nothing, begins, spanOf, isMark, headBy, stopAt, withStop, ended, finished, noNode, counted, valueStep, modeStep, step, goTo, Outcome, refused, atEnd, afterStep}
-use Rattle.reader.specs.Internal.Tokens.{formAt, tokenAt, TokenAt, LeafIs, BeginIs, Begun}
-use Rattle.reader.specs.Internal.Values.{spanAt, labelOf, Sane, rowWords, runFrom, nodesAt, opened, openedHere, Peeked, Marked, Wants, NotMarked, KeySpan, Took, Stops, Ran, RanIs}
+use Rattle.reader.specs.Tree.{Span, leaf, size, headOf}
+use Rattle.reader.specs.Syntax.{Label, label, Frame, value, named, inner, close, config, Step, go, refuseIf, Begins, container, scalar, identifier, nothing, begins, spanOf, isMark, headBy, withStop, ended, finished, noNode, counted, valueStep, modeStep, step, Outcome, atEnd, afterStep}
+use Rattle.reader.specs.Internal.Tokens.{formAt, tokenAt, LeafIs, BeginIs, Begun}
+use Rattle.reader.specs.Internal.Values.{spanAt, labelOf, Sane, rowWords, runFrom, nodesAt, opened, Peeked, Marked, Wants, NotMarked, Took, Stops, Ran, RanIs}
 use Rattle.reader.proofs.StopLaws.{stops-size, stops-key, stops-start, stops-stop}
 use Rattle.reader.proofs.StepRun.{peek-run, mark-go, end-run, fault-run, not-mark, mode-free}
 use Rattle.reader.proofs.ItemRun.{span-some}

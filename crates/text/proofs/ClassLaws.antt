@@ -2,10 +2,10 @@
 -- Assumes nothing.
 use mathlib.Core.Path.{_≡_, refl, sym, ap, _∙_, subst}
 use Prim.Native.Nat.{ℕ, _<_, _≤_}
-use mathlib.Core.Bool.{Bool, true, false, not, cond, _&&_, _||_}
+use mathlib.Core.Bool.{Bool, true, cond, _||_}
 use mathlib.Core.List.{List, [], _∷_}
 use lib.Dec.{T, leb, eqb, eqb→eq, leb→le}
-use lib.ListN.{length, replicate, length-replicate}
+use lib.ListN.{replicate, length-replicate}
 use native.Mathlib.Omega.{arith}
 use Rattle.text.specs.Bytes.{Class, space, digit, capital, small, joiner, quote, tick, mark, slash, plus, other, classOf, classNumber, oneOf, isSpace, isDigit, isCapital, isSmall, isJoiner, is, ascii, within}
 use Rattle.text.proofs.Choice.{cond-both, both-right, or-case}

@@ -1,7 +1,6 @@
 // UTF-8 by RFC 3629: a machine fed byte by byte, the length of the longest valid front, and the bytes of a scalar value.
 ghost use mathlib.Core.Path.{_≡_};
-ghost use Prim.Native.Nat.{_≤_, _<_, _+_};
-ghost use lib.ListN.{length};
+ghost use Prim.Native.Nat.{_<_, _+_};
 ghost use Rattle.text.specs.Utf8.{lead, later, utf8Step, utf8, wholeFront, encode};
 ghost use Rattle.text.specs.Internal.{bytesRead};
 

@@ -17,7 +17,7 @@ use Rattle.reader.specs.declared.tree.Kind.the-variants.{Object, Array, 
 use Rattle.reader.specs.declared.tree.Leaf.{Leaf}
 use Rattle.reader.specs.declared.tree.Begin.{Begin}
 use Rattle.reader.specs.declared.tree.Begin.the-variants as B
-use Rattle.reader.specs.Tree.{Span, Scalar, trueValue, falseValue, nullValue, scalarNumber, scalarWords}
+use Rattle.reader.specs.Tree.{Scalar, trueValue, falseValue, nullValue, scalarNumber, scalarWords}
 use Rattle.reader.specs.Syntax.{begins, container, scalar, identifier, nothing, spanOf, opensWithCapital}
 
 -- an item's form; a mark 0 if it is no token

@@ -14,7 +14,7 @@ use Rattle.text.specs.declared.switches.Switches.{Switches}
 use Rattle.lexer.specs.declared.item.TokenKind.{TokenKind}
 use Rattle.lexer.specs.declared.item.TokenKind.the-variants as K
 use Rattle.lexer.specs.Token as L
-use Rattle.lexer.specs.Token.{Token, Tokens, tokensFrom, tokenContent}
+use Rattle.lexer.specs.Token.{Token, tokensFrom, tokenContent}
 use Rattle.reader.specs.declared.tree.Kind.{Kind}
 use Rattle.reader.specs.declared.tree.Kind.the-variants.{Object}
 use Rattle.reader.specs.declared.tree.Limits.{Limits}
@@ -27,8 +27,8 @@ use Rattle.reader.specs.declared.items.After.{After}
 use Rattle.reader.specs.declared.items.After.the-variants as X
 use Rattle.reader.specs.declared.values.Answer.{Answer}
 use Rattle.reader.specs.declared.values.Answer.the-variants as A
-use Rattle.reader.specs.Tree.{Span, Head, Tree, branch, Forest, count, size, sizes, headOf, rows, rowsAll}
-use Rattle.reader.specs.Syntax.{Label, label, Frame, frame, Slot, first, after, more, Mode, value, inside, colon, Config, config, Step, refuse, Begins, begins, spanOf, isMark, isObject, closer, headBy, ended, finished, valueStep, step, Outcome, refused, atEnd, afterStep, run, holds}
+use Rattle.reader.specs.Tree.{Span, Tree, branch, Forest, size, headOf, rows}
+use Rattle.reader.specs.Syntax.{Label, label, Frame, frame, Slot, first, after, more, value, inside, colon, Config, config, refuse, Begins, begins, spanOf, isObject, closer, headBy, ended, valueStep, step, Outcome, refused, atEnd, afterStep, run, holds}
 use Rattle.reader.specs.Internal.Tokens.{formAt, tokenAt, TokenAt}
 
 -- ---- spans and rows, as the code carries them
