@@ -719,22 +719,6 @@ module _ (sw : Switches) where
   unfolding item
   item-local b x z z′ h s = class-local (classOf b) b x z z′ h s
 
--- the same next byte may follow
-form-same : (f : Form) (c : ℕ) (z z′ : List ℕ) → FormSeam f (c ∷ z) (c ∷ z′)
-unfolding FormSeam heads
-form-same (mark b) c z z′ = tt
-form-same (word s) c z z′ = record { byte = λ e. e; quote = λ e. e; hash = λ e. e }
-form-same (text s) c z z′ = tt
-form-same (bytes s) c z z′ = tt
-form-same (integer i) c z z′ = λ e. e
-form-same (decimal minus m p) c z z′ = λ e. e
-
-pub same-byte : (x : List ℕ) (i : Item) (c : ℕ) (z z′ : List ℕ) → ItemSeam x i (c ∷ z) (c ∷ z′)
-unfolding ItemSeam heads
-same-byte x (gap more) c z z′ = λ _ e. e
-same-byte x (token form more) c z z′ = form-same form c z z′
-same-byte x (fault number) c z z′ = tt
-
 -- nothing that a word or number could go on with
 unfoldable pub goesOn : ℕ → Bool
 goesOn b = isNumberByte b || (is "\"" b || is "#" b)

@@ -1,7 +1,7 @@
 -- What the values of tokens keep to: a decimal to its range, a word to its bytes, a string's content to its body's length.
 -- Assumes nothing.
-use mathlib.Core.Path.{_≡_, refl, sym, ap, _∙_, subst}
-use Prim.Native.Nat.{ℕ, zero, suc, _+_, _-_, _≤_, _<_, zero-le, suc-le-suc}
+use mathlib.Core.Path.{_≡_, refl, subst}
+use Prim.Native.Nat.{ℕ, zero, suc, _+_, _-_, _≤_, zero-le, suc-le-suc}
 use native.Mathlib.Nat.{le-trans}
 use native.Mathlib.Omega.{arith}
 use mathlib.Core.Bool.{Bool, true, false, cond, _&&_}
@@ -11,7 +11,6 @@ use lib.Dec.{leb, leb→le}
 use lib.IntN.{ℤ, pos, negsuc, negℤ, _+ℤ_}
 use lib.Signed.{leZ}
 use lib.ListN.{length, take, drop, getD, length-drop, length-append}
-use lib.Seq.{drop-cons}
 use Rattle.text.specs.declared.switches.Switches.{Switches}
 use Rattle.text.specs.Bytes.{front, begins, Class, classOf, isWordByte, isNumberByte, is, ascii, feed}
 use Rattle.text.specs.Utf8.{isUtf8, listed}
@@ -248,14 +247,3 @@ pub at-keeps : (sw : Switches) (s : List ℕ) (at : ℕ) (form : Form) (more : �
     → Keeps (getD s at 0) (drop (suc at) s) more form
 unfolding itemAt ItemKeeps
 at-keeps sw s at form more e = subst (ItemKeeps (getD s at 0) (drop (suc at) s)) e (item-keeps (getD s at 0) (drop (suc at) s) sw)
-
-module _ (sw : Switches) (s : List ℕ) (at more : ℕ) where
-  -- a decimal token keeps to its range
-  pub decimal-range : (minus : Bool) (m : ℕ) (p : ℤ) → itemAt sw s at ≡ L.token (L.decimal minus m p) more → DecimalFits m p
-  unfolding Keeps
-  decimal-range minus m p e = at-keeps sw s at (L.decimal minus m p) more e
-
-  -- a word token's bytes are those that stand there
-  pub word-slice : (w : List ℕ) → at < length s → itemAt sw s at ≡ L.token (L.word w) more → w ≡ take (suc more) (drop at s)
-  unfolding Keeps
-  word-slice w h e = at-keeps sw s at (L.word w) more e ∙ sym (ap (take (suc more)) (drop-cons s at 0 h))

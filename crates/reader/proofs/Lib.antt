@@ -1,5 +1,4 @@
 -- The laws of the reader's definitions, and those that the proofs of its functions go by.
-pub mod RunLaws
 pub mod StopLaws
 pub mod TableLaws
 pub mod SpanLaws

@@ -153,13 +153,6 @@ closer-mark Object = refl
 closer-mark Array = refl
 closer-mark Tuple = refl
 
-pub slot-either : (P : Slot → Type 0) (z : ℕ) → P first → P more → P (slotOf z)
-slot-either P z p q = pick (eqb z 0)
-  where
-    pick : (b : Bool) → P (cond b first more)
-    pick true = p
-    pick false = q
-
 module _ (sw : Switches) (limits : Limits) (kind : Kind) (l : Label) (ts : Forest) (ks : List (List ℕ)) (stack : List Frame) (m : ℕ) where
   -- the container's own closing bracket ends it, whatever slot it stands in
   pub close-step : (t : Token) → isMark (closer kind) (t .form) ≡ true → (slot : Slot)

@@ -127,12 +127,6 @@ module _ (sw : Switches) (limits : Limits) (s : List ℕ) (start stop : ℕ) (fr
   unfolding opened valueStep afterStep
   nothing-stops b d e = record { ran = λ stack h. ap (λ (x : Begins). opened sw limits s start stop fresh any l n x stack) e }
 
--- the label of a value with no identifier
-pub plain-label : (p : Spans) (start key keyend : ℕ) → p .start ≡ start → p .key ≡ key → p .keyend ≡ keyend → p .name ≡ 0 → p .nameend ≡ 0
-    → labelOf p ≡ label start (spanAt key keyend) none
-unfolding labelOf spanAt
-plain-label p start key keyend a b c d e = rw (a, b, c, d, e)
-
 -- ---- the value in an identifier's brackets
 
 module _ (sw : Switches) (limits : Limits) (s : List ℕ) (from : ℕ) (any : Bool) (l : Label) (n : ℕ) where

@@ -12,7 +12,7 @@ use Rattle.reader.specs.Internal.Values.{labelOf, opened, spanAt}
 use Rattle.reader.proofs.StepRun.{peeked}
 use Rattle.reader.proofs.ItemRun.{only-at, only-not}
 use Rattle.reader.proofs.BodyRun.{Within, took, stops, value-is, last-is, wrong-is, more-is, over-is, off-is, body-look, body-value, body-more, body-over, body-last, body-wrong, body-stop, body-off, body-took, node-left, open-deep, open-full, body-start}
-use Rattle.reader.proofs.ValueRun.{begun-as, lead, opened-by, any-box, nothing-stops, plain-label, inner-run, inner-end, inner-fault, inner-name, inner-nothing, name-label, name-full, name-not, name-stop, name-shut-not, name-took}
+use Rattle.reader.proofs.ValueRun.{begun-as, lead, opened-by, any-box, nothing-stops, inner-run, inner-end, inner-fault, inner-name, inner-nothing, name-label, name-full, name-not, name-stop, name-shut-not, name-took}
 use Prim.Native.Nat.{ℕ, _<_}
 use borrow.Fn.Kinds.{In}
 use borrow.Fn.PlainCycle.{Measures, is, falls, and}
