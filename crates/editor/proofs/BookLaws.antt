@@ -3,16 +3,17 @@
 use mathlib.Core.Path.{_≡_, refl, sym, ap, ap₂, _∙_, subst}
 use Prim.Native.Nat.{ℕ, _+_, _≤_, _<_, min}
 use native.Mathlib.Omega.{arith}
-use mathlib.Core.Bool.{Bool, true, false, not, cond, _||_, false≢true}
+use mathlib.Core.Bool.{Bool, true, false, not, cond}
 use mathlib.Core.List.{List, [], _∷_, _++_}
 use lib.Dec.{T, leb, ltb, eqb, ltb→lt}
 use lib.ListN.{length, length-append}
-use borrow.Author.Tests.{ltb-false, leb-false, eqb-true, le-ltb, not-false}
+use borrow.Author.Tests.{ltb-false, leb-false, eqb-true, not-false}
 use Rattle.text.specs.declared.switches.Switches.{Switches}
-use Rattle.reader.specs.Syntax.{Outcome, taken, refused}
-use Rattle.reader.specs.Reading.{reading, reads, isTaken, nodeCount, tableOf, oneValue, maxText}
-use Rattle.editor.specs.Edit.{Lent, Result, textOf, journalOf, answered, badLength, lengthRefused, corrected, entryOf, withText, overwritten, noRoom, correctionRefusal, withCorrection, decided, onceRead, correct}
+use Rattle.reader.specs.Reading.{reading, reads, nodeCount, tableOf, oneValue, maxText}
+use Rattle.editor.specs.Edit.{Lent, Result, textOf, journalOf, answered, corrected, entryOf, withText, overwritten, noRoom, correctionRefusal, withCorrection, decided, correct}
+use Rattle.editor.specs.Internal.{opened}
 use Rattle.editor.specs.Book.{Correction, Room, Seen, bookText, bookJournal, bookRefusal, told, handedOn, seenOf}
+use Rattle.editor.proofs.CallLaws.{good-length, opened-decided}
 use Rattle.editor.proofs.SpliceLaws.{length-withText, take-withText, length-overwritten, take-overwritten}
 
 -- a chain of refusals that comes to 0: the first test failed, and so did the rest
@@ -68,12 +69,6 @@ module _ (sw : Switches) where
         reads′ = not-false _ (e₅ .0);
       }
 
-  -- what a call comes to, once the text reads
-  pub once-read : (words : ℕ) (b : Lent) (o : Outcome) (n : ℕ) (new : Lent) → isTaken o ≡ true → onceRead sw words b o n new ≡ decided sw words b n new
-  unfolding onceRead isTaken
-  once-read words b (taken t) n new e = refl
-  once-read words b (refused k p) n new e = absurd (false≢true e)
-
   module _ (room : Room) (first : List ℕ) where
     abbrev pub W : ℕ
     W = room .words
@@ -115,23 +110,13 @@ module _ (sw : Switches) where
     unfolding seenOf handedOn answered told shown
     seen-told cs b n sh = λ i. shown W n (sh .texts i) (sh .journals i) (sh .used i) (sh .kept i)
 
-    pub not-bad : (cs : List Correction) (b : Lent) → Shared cs b → badLength b ≡ false
-    unfolding badLength
-    not-bad cs b sh = ap₂ _||_ (le-ltb _ _ (sh .usedFits)) (le-ltb _ _ (sh .keptFits))
-
-    pub outcome-taken : (cs : List Correction) (b : Lent) → Shared cs b → isTaken (reading sw W (textOf b)) ≡ true
-    unfolding reads
-    outcome-taken cs b sh = ap (reads sw W) (sh .texts) ∙ in-reads cs (sh .force)
+    -- what a call shows is its own decision
+    pub shared-decided : (cs : List Correction) (b : Lent) (refusal : ℕ) (new : Lent) → Shared cs b
+        → opened sw W b refusal new ≡ decided sw W b refusal new
+    shared-decided cs b refusal new sh =
+        opened-decided sw W b refusal new (good-length sw W b (sh .usedFits) (sh .keptFits)) (ap (reads sw W) (sh .texts) ∙ in-reads cs (sh .force))
 
     -- ---- corrections
-
-    correct-decided : (cs : List Correction) (b : Lent) (c : Correction) → Shared cs b
-        → correct sw W b (c .node) (c .replacement)
-        ≡ decided sw W b (correctionRefusal sw W b (c .node) (c .replacement)) (withCorrection sw W b (c .node) (c .replacement))
-    unfolding correct
-    correct-decided cs b c sh =
-        ap (λ (x : Bool). cond x (lengthRefused W b) (onceRead sw W b (reading sw W (textOf b)) (correctionRefusal sw W b (c .node) (c .replacement)) (withCorrection sw W b (c .node) (c .replacement)))) (not-bad cs b sh)
-        ∙ once-read W b (reading sw W (textOf b)) _ _ (outcome-taken cs b sh)
 
     chain-book : (cs : List Correction) (c : Correction)
         → bookRefusal sw room first cs c ≡ chain W c (text-of cs) (room .text) (length (journal-of cs) + length (entryOf sw W (c .node) (c .replacement) (text-of cs))) (room .journal)
@@ -197,11 +182,12 @@ module _ (sw : Switches) where
 
     pub correct-same : (cs : List Correction) (b : Lent) (c : Correction) → Shared cs b
         → Same cs b (bookRefusal sw room first cs c) (cond (eqb (bookRefusal sw room first cs c) 0) (c ∷ cs) cs) (correct sw W b (c .node) (c .replacement))
+    unfolding correct
     correct-same cs b c sh =
         let total : ℕ = length (journal-of cs) + length (entryOf sw W (c .node) (c .replacement) (text-of cs)) in
         let ch : ℕ = chain W c (text-of cs) (room .text) total (room .journal) in
         let p : correct sw W b (c .node) (c .replacement) ≡ decided sw W b (bookRefusal sw room first cs c) (withCorrection sw W b (c .node) (c .replacement)) =
-        correct-decided cs b c sh
+        shared-decided cs b (correctionRefusal sw W b (c .node) (c .replacement)) (withCorrection sw W b (c .node) (c .replacement)) sh
         ∙ ap (λ (n : ℕ). decided sw W b n (withCorrection sw W b (c .node) (c .replacement))) (chain-lent cs b c sh ∙ sym (chain-book cs c)) in
         subst (λ (res : Result). Same cs b (bookRefusal sw room first cs c) (cond (eqb (bookRefusal sw room first cs c) 0) (c ∷ cs) cs) res) (sym p)
         (decided-same cs (c ∷ cs) b (withCorrection sw W b (c .node) (c .replacement)) (bookRefusal sw room first cs c) (eqb (bookRefusal sw room first cs c) 0) refl sh

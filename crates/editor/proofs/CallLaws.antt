@@ -21,9 +21,10 @@ use Rattle.editor.specs.declared.edit.Change.{Change}
 use Rattle.editor.specs.declared.trial.Tried.{Tried}
 use Rattle.editor.specs.declared.trial.Tried.the-variants as Y
 use Rattle.editor.specs.Edit.{Lent, Result, Shows, textOf, changeOf, verdictOf, badLength, lengthRefused, overwritten, answered, decided, onceRead}
-use Rattle.editor.specs.Internal.{changed, refusedWith, TableIs, TriesIs, Tries, ReadNow, Stopped, OpensIs, Opens}
+use Rattle.editor.specs.Internal.{changed, refusedWith, TableIs, TriesIs, Tries, ReadNow, Stopped, OpensIs, Opens, opened}
 use Rattle.editor.proofs.SpliceLaws.{take-overwritten}
 use Rattle.reader.proofs.NumberBound.{NumberWithin, number-law}
+use Rattle.reader.proofs.SizeLaws.{taken-nodes}
 
 -- ---- lists
 
@@ -39,16 +40,6 @@ pub front-is : (n : ℕ) (x d e : List ℕ) → e ≡ overwritten 0 x d → n �
 front-is n x d e p q h = let z : n ≡ 0 + length x = omega arith in ap₂ (λ (k : ℕ) (l : List ℕ). take k l) z p ∙ take-overwritten 0 x d (omega arith)
 
 -- ---- readings
-
-pub taken-nodes : (o : Outcome) (n : ℕ) → answerOf o ≡ R.Taken n → n ≡ nodeCount o
-unfolding answerOf nodeCount
-taken-nodes (taken tree) n e = cc
-taken-nodes (refused k p) n e = cc
-
-pub refused-nodes : (o : Outcome) (k p : ℕ) → answerOf o ≡ R.Refused k p → 0 ≡ nodeCount o
-unfolding answerOf nodeCount
-refused-nodes (taken tree) k p e = cc
-refused-nodes (refused j q) k p e = refl
 
 taken-is : (o : Outcome) (n : ℕ) → answerOf o ≡ R.Taken n → isTaken o ≡ true
 unfolding answerOf isTaken
@@ -159,6 +150,30 @@ module _ (sw : Switches) (words : ℕ) where
     pub good-length : b .used ≤ length (b .text) → b .kept ≤ length (b .journal) → badLength b ≡ false
     unfolding badLength
     good-length g h = ap₂ _||_ (le-ltb _ _ g) (le-ltb _ _ h)
+
+    -- what a call comes to, once the text reads
+    pub once-read : (o : Outcome) (refusal : ℕ) (new : Lent) → isTaken o ≡ true → onceRead sw words b o refusal new ≡ decided sw words b refusal new
+    unfolding onceRead isTaken
+    once-read (taken tree) refusal new e = refl
+    once-read (refused k p) refusal new e = cc
+
+    -- good lengths and a text that reads: what a call shows is its own decision
+    pub opened-decided : (refusal : ℕ) (new : Lent) → badLength b ≡ false → reads sw words (textOf b) ≡ true
+        → opened sw words b refusal new ≡ decided sw words b refusal new
+    unfolding reads
+    opened-decided refusal new g r =
+        cond-false (badLength b) (lengthRefused words b) (onceRead sw words b (reading sw words (textOf b)) refusal new) g
+        ∙ once-read (reading sw words (textOf b)) refusal new r
+
+    -- the same by the table: `long` words, its length when the text had been read
+    pub opened-shows : (refusal : ℕ → ℕ) (new : ℕ → Lent) (table : List ℕ) (nodes long : ℕ) (r : Change) (text journal out : List ℕ)
+        → ReadNow sw words b table nodes → long ≡ words → Shows (decided sw long b (refusal long) (new long)) r text journal out
+        → Shows (opened sw words b (refusal words) (new words)) r text journal out
+    opened-shows refusal new table nodes long r text journal out read l s =
+        subst (λ (x : Result). Shows x r text journal out)
+        ((λ i. decided sw (l i) b (refusal (l i)) (new (l i)))
+        ∙ sym (opened-decided (refusal words) (new words) (good-length (read .used-fits) (read .kept-fits)) (read .reads-now)))
+        s
 
     opens-by : (o : Outcome) → reading sw words (textOf b) ≡ o → NumberWithin o → b .used ≤ length (b .text) → b .kept ≤ length (b .journal)
         → OpensIs sw words b (tableOf words o) (answerOf o)

@@ -18,7 +18,7 @@ use Rattle.reader.specs.Reading.{reading, reads, isTaken, nodeCount, oneValue, 
 use Rattle.reader.proofs.LimitLaws.{Limit, deep, many, Fair}
 use Rattle.reader.proofs.ReplaceLaws.{replaced-reading}
 use Rattle.editor.specs.Edit.{Lent, lentOf, Result, textOf, splice, noRoom, badLength, lengthRefused, answered, decided, startOf, stopOf, corrected, entryOf, correctionRefusal, withCorrection, correct}
-use Rattle.editor.proofs.BookLaws.{once-read}
+use Rattle.editor.proofs.CallLaws.{once-read}
 use Rattle.editor.proofs.Computing.{editing}
 
 -- ---- "only 9 or 10": the text reads, or is refused with 9 or with 10

@@ -10,19 +10,17 @@ use lib.ListN.{length, length-append}
 use lib.Seq.{length-take-le}
 use borrow.Author.Tests.{lt-ltb, le-ltb, lt-leb, le-leb}
 use Rattle.text.specs.declared.switches.Switches.{Switches}
-use Rattle.text.proofs.Choice.{cond-false}
 use Rattle.reader.specs.Reading.{reading, reads, nodeCount, wordOf, oneValue}
 use Rattle.reader.specs.Content.{part}
 use Rattle.reader.proofs.SpanLaws.{span-law}
 use Rattle.editor.specs.declared.edit.Verdict.the-variants as A
 use Rattle.editor.specs.declared.edit.Change.{Change}
-use Rattle.editor.specs.Edit.{Lent, Result, Shows, textOf, badLength, splice, trailer, entry, withText, overwritten, noRoom, decided, startOf, stopOf, corrected, entryOf, correctionRefusal, withCorrection, correct}
+use Rattle.editor.specs.Edit.{Lent, Result, Shows, textOf, splice, trailer, entry, withText, overwritten, noRoom, decided, startOf, stopOf, corrected, entryOf, correctionRefusal, withCorrection, correct}
 use Rattle.editor.specs.Internal.{changed, TableIs, ReadNow, Stopped, replaceRefusal, withReplacement, Within}
 use Rattle.editor.proofs.SpliceLaws.{length-part, length-splice, take-withText}
 use Rattle.editor.proofs.EntryLaws.{length-trailer}
-use Rattle.editor.proofs.BookLaws.{once-read}
 use Rattle.editor.proofs.ReadLaws.{row-within, value-short}
-use Rattle.editor.proofs.CallLaws.{part-front, shows-done, good-length}
+use Rattle.editor.proofs.CallLaws.{part-front, shows-done}
 
 -- ---- by start and stop
 
@@ -173,17 +171,6 @@ module _ (sw : Switches) (words : ℕ) (b : Lent) (node : ℕ) (replacement tabl
 -- ---- the whole call
 
 module _ (sw : Switches) (words : ℕ) (b : Lent) (node : ℕ) (replacement : List ℕ) where
-  -- `long` words: the table's length when it had been read
-  pub correct-shows : (table : List ℕ) (nodes long : ℕ) (r : Change) (text journal out : List ℕ) → ReadNow sw words b table nodes → long ≡ words
-      → Shows (decided sw long b (correctionRefusal sw long b node replacement) (withCorrection sw long b node replacement)) r text journal out
-      → Shows (correct sw words b node replacement) r text journal out
-  unfolding correct reads
-  correct-shows table nodes long r text journal out read l s =
-      subst (λ (x : Result). Shows x r text journal out)
-      ((λ i. decided sw (l i) b (correctionRefusal sw (l i) b node replacement) (withCorrection sw (l i) b node replacement))
-      ∙ sym (cond-false (badLength b) _ _ (good-length sw words b (read .used-fits) (read .kept-fits)) ∙ once-read sw words b (reading sw words (textOf b)) _ _ (read .reads-now)))
-      s
-
   pub correct-stops : (table : List ℕ) (k p : ℕ) → Stopped sw words b table k p
       → Shows (correct sw words b node replacement) (changed (A.Refused k p) 0 (b .used) (b .kept)) (b .text) (b .journal) table
   unfolding correct

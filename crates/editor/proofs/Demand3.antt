@@ -9,12 +9,12 @@ use lib.ListN.{length, take, replicate}
 use lib.Seq.{length-take-le}
 use Rattle.text.specs.declared.switches.Switches.{Switches}
 use Rattle.reader.specs.Reading.{reading, reads, tableOf}
-use Rattle.editor.specs.Edit.{Lent, Result, textOf, journalOf, answered, decided, withUndo, undo}
+use Rattle.editor.specs.Edit.{Lent, Result, textOf, journalOf, answered, decided, undoRefusal, withUndo, undo}
 use Rattle.editor.specs.Book.{Correction, Call, correction, undoing, Room, Seen, bookText, bookJournal, told, bookAfter, bookNumber, inForce, book, handedOn, seenOf, called, calls, after, roomOf, Fresh, Demand3}
 use Rattle.text.proofs.Choice.{is-true}
 use Rattle.editor.proofs.ReadLaws.{reads-short}
-use Rattle.editor.proofs.BookLaws.{AllAccepted, Shared, Same, seen-told, correct-same}
-use Rattle.editor.proofs.UndoLaws.{undo-decided, undo-none, undo-some, withUndo-shared}
+use Rattle.editor.proofs.BookLaws.{AllAccepted, Shared, Same, seen-told, shared-decided, correct-same}
+use Rattle.editor.proofs.UndoLaws.{undo-none, undo-some, withUndo-shared}
 
 -- ---- every call, and every list of calls
 
@@ -24,15 +24,15 @@ module _ (sw : Switches) (room : Room) (first : List ℕ) where
 
   call-same : (cs : List Correction) (b : Lent) (k : Call) → Shared sw room first cs b
       → Same sw room first cs b (bookNumber sw room first cs k) (bookAfter sw room first cs k) (called sw W b k)
-  unfolding bookNumber bookAfter called decided answered handedOn
+  unfolding bookNumber bookAfter called undo decided answered handedOn
   call-same cs b (correction c) sh = correct-same sw room first cs b c sh
   call-same [] b undoing sh =
       let p : undo sw W b ≡ answered sw W 17 0 b =
-      undo-decided sw room first [] b sh ∙ ap (λ (n : ℕ). decided sw W b n (withUndo b)) (undo-none sw room first b sh) in
+      shared-decided sw room first [] b (undoRefusal sw W b) (withUndo b) sh ∙ ap (λ (n : ℕ). decided sw W b n (withUndo b)) (undo-none sw room first b sh) in
       subst (λ (res : Result). Same sw room first [] b 17 [] res) (sym p) (seen-told sw room first [] b 17 sh, sh)
   call-same (c ∷ cs) b undoing sh =
       let p : undo sw W b ≡ answered sw W 0 0 (withUndo b) =
-      undo-decided sw room first (c ∷ cs) b sh ∙ ap (λ (n : ℕ). decided sw W b n (withUndo b)) (undo-some sw room first c cs (sh .force) b sh) in
+      shared-decided sw room first (c ∷ cs) b (undoRefusal sw W b) (withUndo b) sh ∙ ap (λ (n : ℕ). decided sw W b n (withUndo b)) (undo-some sw room first c cs (sh .force) b sh) in
       let new : Shared sw room first cs (withUndo b) = withUndo-shared sw room first c cs (sh .force) b sh in
       subst (λ (res : Result). Same sw room first (c ∷ cs) b 0 cs res) (sym p) (seen-told sw room first cs (withUndo b) 0 new, new)
 

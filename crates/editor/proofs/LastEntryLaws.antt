@@ -8,6 +8,7 @@ use mathlib.Core.List.{List}
 use lib.Dec.{ltb, eqb}
 use lib.ListN.{length, drop}
 use borrow.Author.Tests.{lt-ltb, le-ltb, ltb-false, eq-eqb, ne-eqb, eqb-true, eqb-false}
+use Rattle.text.proofs.Choice.{or-left, or-right}
 use Rattle.editor.specs.declared.journal.Entry.the-variants as E
 use Rattle.editor.specs.Edit.{fromLe32, trailerNumber, entryStart, entryNew, entrySize, badEntry}
 use Rattle.editor.specs.Internal.{lastEntry}
@@ -100,15 +101,6 @@ is-last : (p q : Bool) (a s z a′ s′ z′ : ℕ) → cond p E.Nothing (cond q
 is-last true q a s z a′ s′ z′ e = (cc, cc, cc, cc, cc)
 is-last false true a s z a′ s′ z′ e = (cc, cc, cc, cc, cc)
 is-last false false a s z a′ s′ z′ e = (refl, refl, cc, cc, cc)
-
--- a test that failed in all its parts
-or-left : (a b : Bool) → (a || b) ≡ false → a ≡ false
-or-left true b e = cc
-or-left false b e = refl
-
-or-right : (a b : Bool) → (a || b) ≡ false → b ≡ false
-or-right true b e = cc
-or-right false b e = e
 
 module _ (j t : List ℕ) where
   pub nothing-says : lastEntry j t ≡ E.Nothing → length j ≡ 0

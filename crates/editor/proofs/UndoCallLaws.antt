@@ -10,17 +10,15 @@ use lib.ListN.{length, take}
 use lib.Seq.{length-take-le}
 use borrow.Author.Tests.{lt-ltb, le-ltb, eq-eqb, ne-eqb}
 use Rattle.text.specs.declared.switches.Switches.{Switches}
-use Rattle.text.proofs.Choice.{cond-false}
-use Rattle.reader.specs.Reading.{reading, reads}
+use Rattle.reader.specs.Reading.{reads}
 use Rattle.reader.specs.Content.{part}
 use Rattle.editor.specs.declared.journal.Entry.the-variants as E
 use Rattle.editor.specs.declared.edit.Verdict.the-variants as A
 use Rattle.editor.specs.declared.edit.Change.{Change}
-use Rattle.editor.specs.Edit.{Lent, Result, Shows, textOf, journalOf, badLength, splice, withText, noRoom, decided, entrySize, oldBytes, undone, withUndo, undoRefusal, undo}
-use Rattle.editor.specs.Internal.{changed, TableIs, ReadNow, Stopped, lastEntry, LastIs}
+use Rattle.editor.specs.Edit.{Lent, Shows, textOf, journalOf, splice, withText, noRoom, decided, entrySize, oldBytes, undone, withUndo, undoRefusal, undo}
+use Rattle.editor.specs.Internal.{changed, TableIs, Stopped, lastEntry, LastIs}
 use Rattle.editor.proofs.SpliceLaws.{length-part, length-splice, take-withText}
-use Rattle.editor.proofs.BookLaws.{once-read}
-use Rattle.editor.proofs.CallLaws.{part-front, shows-done, good-length}
+use Rattle.editor.proofs.CallLaws.{part-front, shows-done}
 use Rattle.editor.proofs.LastEntryLaws.{nothing-says, bad-says, Good, last-says}
 
 module _ (sw : Switches) (words : ℕ) (b : Lent) (used-fits : b .used ≤ length (b .text)) (kept-fits : b .kept ≤ length (b .journal)) where
@@ -143,17 +141,6 @@ module _ (sw : Switches) (words : ℕ) (b : Lent) (used-fits : b .used ≤ lengt
 -- ---- the whole call
 
 module _ (sw : Switches) (words : ℕ) (b : Lent) where
-  -- `long` words: the table's length when it had been read
-  pub undo-shows : (table : List ℕ) (nodes long : ℕ) (r : Change) (text journal out : List ℕ) → ReadNow sw words b table nodes → long ≡ words
-      → Shows (decided sw long b (undoRefusal sw long b) (withUndo b)) r text journal out
-      → Shows (undo sw words b) r text journal out
-  unfolding undo reads
-  undo-shows table nodes long r text journal out read l s =
-      subst (λ (x : Result). Shows x r text journal out)
-      ((λ i. decided sw (l i) b (undoRefusal sw (l i) b) (withUndo b))
-      ∙ sym (cond-false (badLength b) _ _ (good-length sw words b (read .used-fits) (read .kept-fits)) ∙ once-read sw words b (reading sw words (textOf b)) _ _ (read .reads-now)))
-      s
-
   pub undo-stops : (table : List ℕ) (k p : ℕ) → Stopped sw words b table k p
       → Shows (undo sw words b) (changed (A.Refused k p) 0 (b .used) (b .kept)) (b .text) (b .journal) table
   unfolding undo

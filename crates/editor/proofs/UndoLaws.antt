@@ -10,10 +10,10 @@ use lib.ListN.{length, take, drop, length-append}
 use lib.Seq.{take-at, drop-at, take-take}
 use borrow.Author.Tests.{le-ltb, eq-eqb, ne-eqb}
 use Rattle.text.specs.declared.switches.Switches.{Switches}
-use Rattle.reader.specs.Reading.{reading, reads, maxText}
+use Rattle.reader.specs.Reading.{reads, maxText}
 use Rattle.reader.specs.Content.{part}
 use Rattle.reader.proofs.SpanLaws.{span-law}
-use Rattle.editor.specs.Edit.{Lent, textOf, journalOf, lengthRefused, splice, startOf, stopOf, corrected, trailer, entry, entryOf, withText, noRoom, decided, onceRead, entryStart, entryNew, entrySize, badEntry, oldBytes, undone, undoRefusal, withUndo, undo}
+use Rattle.editor.specs.Edit.{Lent, textOf, journalOf, splice, startOf, stopOf, corrected, trailer, entry, entryOf, withText, noRoom, entryStart, entryNew, entrySize, badEntry, oldBytes, undone, undoRefusal, withUndo}
 use Rattle.editor.specs.Book.{Correction, Room, bookText, bookJournal}
 use Rattle.editor.proofs.SpliceLaws.{length-part, splice-back, length-splice, length-withText, take-withText}
 use Rattle.editor.proofs.EntryLaws.{length-trailer, trailer-start, trailer-new, trailer-size}
@@ -28,12 +28,6 @@ module _ (sw : Switches) (room : Room) (first : List ℕ) where
 
   abbrev journal-of : List Correction → List ℕ
   journal-of cs = bookJournal sw room first cs
-
-  pub undo-decided : (cs : List Correction) (b : Lent) → B.Shared sw room first cs b → undo sw W b ≡ decided sw W b (undoRefusal sw W b) (withUndo b)
-  unfolding undo
-  undo-decided cs b sh =
-      ap (λ (x : Bool). cond x (lengthRefused W b) (onceRead sw W b (reading sw W (textOf b)) (undoRefusal sw W b) (withUndo b))) (B.not-bad sw room first cs b sh)
-      ∙ B.once-read sw W b (reading sw W (textOf b)) _ _ (B.outcome-taken sw room first cs b sh)
 
   -- nothing in force: 17
   pub undo-none : (b : Lent) → B.Shared sw room first [] b → undoRefusal sw W b ≡ 17

@@ -13,7 +13,7 @@ use lib.Seq.{take-at, take-append-le, drop-append-le}
 use borrow.Author.Tests.{eqb-true}
 use Rattle.text.specs.declared.switches.Switches.{Switches}
 use Rattle.text.specs.Bytes.{feed, front, begins, Class, classOf, isWordByte, isNumberByte, isLetterOrDigit, is, ascii}
-use Rattle.text.proofs.Choice.{cond-case, cond-true, cond-false, and-left, and-right, and-off}
+use Rattle.text.proofs.Choice.{cond-case, cond-true, cond-false, and-left, and-right, and-off, or-left, or-right}
 use Rattle.text.proofs.FeedLaws.{feed-stays, feed-append}
 use Rattle.literals.specs.declared.decoder.Body.{Body}
 use Rattle.literals.specs.declared.decoder.Body.the-variants as Y
@@ -723,13 +723,10 @@ module _ (sw : Switches) where
 unfoldable pub goesOn : ℕ → Bool
 goesOn b = isNumberByte b || (is "\"" b || is "#" b)
 
-or-left : (a b : Bool) → a || b ≡ false → a ≡ false
-or-left true b e = no-false e
-or-left false b e = refl
-
-or-right : (a b : Bool) → a || b ≡ false → b ≡ false
-or-right true b e = no-false e
-or-right false b e = e
+number-ends : (y : List ℕ) → heads goesOn y ≡ false → heads isNumberByte y ≡ false
+unfolding heads goesOn
+number-ends [] e = refl
+number-ends (c ∷ y) e = or-left (isNumberByte c) (is "\"" c || is "#" c) e
 
 -- after a token: the end, or a byte that no word or number goes on with
 pub form-ends : (f : Form) (z z′ : List ℕ) → heads goesOn z′ ≡ false → FormSeam f z z′
@@ -747,16 +744,8 @@ form-ends (word s) z z′ h = record { byte = λ _. at z′ h .0; quote = λ _. 
         )
 form-ends (text s) z z′ h = tt
 form-ends (bytes s) z z′ h = tt
-form-ends (integer i) z z′ h = λ _. num z′ h
-  where
-    num : (y : List ℕ) → heads goesOn y ≡ false → heads isNumberByte y ≡ false
-    num [] e = refl
-    num (c ∷ y) e = or-left (isNumberByte c) (is "\"" c || is "#" c) e
-form-ends (decimal minus m p) z z′ h = λ _. num z′ h
-  where
-    num : (y : List ℕ) → heads goesOn y ≡ false → heads isNumberByte y ≡ false
-    num [] e = refl
-    num (c ∷ y) e = or-left (isNumberByte c) (is "\"" c || is "#" c) e
+form-ends (integer i) z z′ h = λ _. number-ends z′ h
+form-ends (decimal minus m p) z z′ h = λ _. number-ends z′ h
 
 -- what passes every test alike may follow every item
 pub all-seam : (x : List ℕ) (i : Item) (z z′ : List ℕ) → ((p : ℕ → Bool) → Seam p z z′) → ItemSeam x i z z′

@@ -19,8 +19,9 @@ use Rattle.literals.specs.declared.decoder.Body.{Body}
 use Rattle.literals.specs.declared.decoder.Body.the-variants as Y
 use Rattle.literals.specs.declared.decoder.Decoder.{Decoder}
 use Rattle.literals.specs.Content.{mayEnd, decodeStep, prepend, decoded, startOf, content, onlyUtf8, contentOf}
-use Rattle.literals.specs.InternalContent.{bitRoom, Sound}
+use Rattle.literals.specs.InternalContent.{Sound}
 use Rattle.literals.proofs.StepLaws.{spent, good-next}
+use Rattle.literals.proofs.TallyLaws.{start-sound}
 use Rattle.literals.specs.declared.number.Number.{Number}
 use Rattle.literals.specs.declared.number.Number.the-variants.{Start, Bad, Sign, Zero, Digit, Gap, Dot, Prefix, Based, BasedGap, Fraction, FractionGap, Mark, ExpSign, ExpZero, ExpDigit, ExpGap}
 use Rattle.literals.specs.declared.number.Meaning.{Meaning}
@@ -56,25 +57,12 @@ decoded-short sw st (b ∷ s) h =
     prepend-short (spent st + suc (length s)) (spent (d .state) + length s) (listed (d .out)) (decoded sw (d .state) s) (omega arith)
     (decoded-short sw (d .state) s (g .0))
 
-start-sound : (body : Body) → Sound (startOf body)
-unfolding Sound startOf bitRoom
-start-sound Y.Quoted = tt
-start-sound Y.Raw = tt
-start-sound Y.Base64 = omega arith
-start-sound Y.Word = tt
-
-start-spent : (body : Body) → spent (startOf body) ≡ 0
-unfolding spent startOf
-start-spent Y.Quoted = refl
-start-spent Y.Raw = refl
-start-spent Y.Base64 = refl
-start-spent Y.Word = refl
-
 body-short : (sw : Switches) (body : Body) (s : List ℕ) → Short (length s) (content sw body s)
 unfolding content
 body-short sw body s =
-    let e : spent (startOf body) + length s ≡ length s = let z = start-spent body in omega arith in
-    subst (λ (n : ℕ). Short n (decoded sw (startOf body) s)) e (decoded-short sw (startOf body) s (start-sound body))
+    let g = start-sound body in
+    let e : spent (startOf body) + length s ≡ length s = omega arith in
+    subst (λ (n : ℕ). Short n (decoded sw (startOf body) s)) e (decoded-short sw (startOf body) s (g .0))
 
 only-short : (n : ℕ) (o : Option (List ℕ)) → Short n o → Short n (onlyUtf8 o)
 unfolding Short onlyUtf8

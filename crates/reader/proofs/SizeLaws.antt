@@ -17,7 +17,8 @@ use Rattle.text.proofs.Choice.{cond-both}
 use Rattle.reader.specs.Tree.{Span, Tree, leaf, branch, Forest, nil, cons, snoc, count, size, sizes, rows, rowsAll, padded, noParent, nodeWords}
 use Rattle.reader.specs.declared.tree.Limits.{Limits}
 use Rattle.reader.specs.Syntax.{Label, Frame, Slot, first, lone, after, more, Mode, value, named, inner, close, inside, colon, done, Config, Step, go, refuse, Begins, container, scalar, identifier, nothing, spanOf, isMark, closer, isObject, keyOf, begins, headBy, withStop, label, finished, ended, goTo, refuseIf, isComma, emptyByComma, holds, keyStep, closeOr, noNode, counted, valueStep, freshValue, childStep, slotStep, modeStep, step, Outcome, taken, refused, atEnd, afterStep, run, before}
-use Rattle.reader.specs.Reading.{outcome, reading, nodeLimit, limitsOf, nodeCount, tableOf, maxText}
+use Rattle.reader.specs.declared.read.Reading.the-variants as R
+use Rattle.reader.specs.Reading.{outcome, reading, nodeLimit, limitsOf, nodeCount, tableOf, answerOf, maxText}
 use Rattle.reader.proofs.StopLaws.{stops-size}
 use Rattle.reader.proofs.TableLaws.{length-rows}
 
@@ -218,3 +219,15 @@ table-length words (refused number place) h = length-replicate words 0
 -- the table keeps its length
 pub table-law : (sw : Switches) (words : ℕ) (text : List ℕ) → length (tableOf words (reading sw words text)) ≡ words
 table-law sw words text = let h = count-law sw words text in table-length words (reading sw words text) (omega arith)
+
+-- ---- the count that an answer tells
+
+pub taken-nodes : (o : Outcome) (n : ℕ) → answerOf o ≡ R.Taken n → n ≡ nodeCount o
+unfolding answerOf nodeCount
+taken-nodes (taken tree) n e = cc
+taken-nodes (refused k p) n e = cc
+
+pub refused-nodes : (o : Outcome) (k p : ℕ) → answerOf o ≡ R.Refused k p → 0 ≡ nodeCount o
+unfolding answerOf nodeCount
+refused-nodes (taken tree) k p e = cc
+refused-nodes (refused j q) k p e = refl

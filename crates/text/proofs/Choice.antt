@@ -61,6 +61,14 @@ pub and-off : (a b : Bool) → a ≡ false → a && b ≡ false
 and-off true b e = absurd (true≢false e)
 and-off false b e = refl
 
+pub or-left : (a b : Bool) → a || b ≡ false → a ≡ false
+or-left true b e = absurd (true≢false e)
+or-left false b e = refl
+
+pub or-right : (a b : Bool) → a || b ≡ false → b ≡ false
+or-right true b e = absurd (true≢false e)
+or-right false b e = e
+
 pub or-case : (a b : Bool) (Q : Type 0) → T (a || b) → (T a → Q) → (T b → Q) → Q
 or-case true b Q t f g = f tt
 or-case false b Q t f g = g t

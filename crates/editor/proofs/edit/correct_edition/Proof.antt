@@ -1,9 +1,9 @@
 use native.Mathlib.Omega.{arith}
 use mathlib.Core.Path.{_≡_, refl, sym, ap, _∙_}
 use lib.ListN.{length}
-use Rattle.editor.specs.Edit.{lentOf}
-use Rattle.editor.proofs.CallLaws.{opens-taken, opens-stopped}
-use Rattle.editor.proofs.CorrectLaws.{read-at, correct-shows, correct-stops}
+use Rattle.editor.specs.Edit.{lentOf, correctionRefusal, withCorrection, correct}
+use Rattle.editor.proofs.CallLaws.{opens-taken, opens-stopped, opened-shows}
+use Rattle.editor.proofs.CorrectLaws.{read-at, correct-stops}
 use borrow.Author.Needs.{needs}
 use Rattle.editor.proofs.edit.correct_edition.Statement.{statement}
 use Rattle.editor.proofs.edit.correct_edition.Tie as tie
@@ -59,7 +59,9 @@ same-length-6 c = omega arith
 
 -- src/edit.rt:143:1
 returns-2 : tie.Need-returns-2
-returns-2 c = correct-shows (c .before .before .before .before .before .before .before .before .before .before .before .before .before .before .before .before .before .before .before .before .before .before .before .args .sw) (length (c .before .before .before .before .before .before .before .before .before .before .before .before .before .before .before .before .before .before .before .before .before .before .before .args .table .now)) (lentOf (c .before .before .before .before .before .before .before .before .before .before .before .before .before .before .before .before .before .before .before .before .before .before .before .args .text .now) (c .before .before .before .before .before .before .before .before .before .before .before .before .before .before .before .before .before .before .before .before .before .before .before .args .used) (c .before .before .before .before .before .before .before .before .before .before .before .before .before .before .before .before .before .before .before .before .before .before .before .args .journal .now) (c .before .before .before .before .before .before .before .before .before .before .before .before .before .before .before .before .before .before .before .before .before .before .before .args .kept)) (c .before .before .before .before .before .before .before .before .before .before .before .before .before .before .before .before .before .before .before .before .before .before .before .args .node) (c .before .before .before .before .before .before .before .before .before .before .before .before .before .before .before .before .before .before .before .before .before .before .before .args .replacement .now) _ _ _ _ _ _ _
+unfolding correct
+returns-2 c = let b = lentOf (c .before .before .before .before .before .before .before .before .before .before .before .before .before .before .before .before .before .before .before .before .before .before .before .args .text .now) (c .before .before .before .before .before .before .before .before .before .before .before .before .before .before .before .before .before .before .before .before .before .before .before .args .used) (c .before .before .before .before .before .before .before .before .before .before .before .before .before .before .before .before .before .before .before .before .before .before .before .args .journal .now) (c .before .before .before .before .before .before .before .before .before .before .before .before .before .before .before .before .before .before .before .before .before .before .before .args .kept) in
+    opened-shows (c .before .before .before .before .before .before .before .before .before .before .before .before .before .before .before .before .before .before .before .before .before .before .before .args .sw) (length (c .before .before .before .before .before .before .before .before .before .before .before .before .before .before .before .before .before .before .before .before .before .before .before .args .table .now)) b (λ w. correctionRefusal (c .before .before .before .before .before .before .before .before .before .before .before .before .before .before .before .before .before .before .before .before .before .before .before .args .sw) w b (c .before .before .before .before .before .before .before .before .before .before .before .before .before .before .before .before .before .before .before .before .before .before .before .args .node) (c .before .before .before .before .before .before .before .before .before .before .before .before .before .before .before .before .before .before .before .before .before .before .before .args .replacement .now)) (λ w. withCorrection (c .before .before .before .before .before .before .before .before .before .before .before .before .before .before .before .before .before .before .before .before .before .before .before .args .sw) w b (c .before .before .before .before .before .before .before .before .before .before .before .before .before .before .before .before .before .before .before .before .before .before .before .args .node) (c .before .before .before .before .before .before .before .before .before .before .before .before .before .before .before .before .before .before .before .before .before .before .before .args .replacement .now)) _ _ _ _ _ _ _
     (opens-taken (c .before .before .before .before .before .before .before .before .before .before .before .before .before .before .before .before .before .before .before .before .before .before .before .args .sw) _ (c .before .before .before .before .before .before .before .before .before .before .before .nodes .given .1) (c .before .before .before .before .before .before .before .before .before .before .before .before .before .before .before .open-text .ensures)) (c .before .before .before .before .before .before .before .before .before .before .before .before .before .before .before .open-text .kept .1 .1 .1 .1 .1 .0) (c .before .before .before .before .before .before .correct-read .ensures)
 
 pub correct-edition-spec : {M : Type 1} → statement M

@@ -1,10 +1,10 @@
 use native.Mathlib.Omega.{arith}
 use mathlib.Core.Path.{_≡_, refl, sym, ap, _∙_}
 use lib.ListN.{length}
-use Rattle.editor.specs.Edit.{lentOf}
-use Rattle.editor.proofs.CallLaws.{opens-taken, opens-stopped}
+use Rattle.editor.specs.Edit.{lentOf, undoRefusal, withUndo, undo}
+use Rattle.editor.proofs.CallLaws.{opens-taken, opens-stopped, opened-shows}
 use Rattle.editor.proofs.CorrectLaws.{read-at}
-use Rattle.editor.proofs.UndoCallLaws.{undo-shows, undo-stops}
+use Rattle.editor.proofs.UndoCallLaws.{undo-stops}
 use borrow.Author.Needs.{needs}
 use Rattle.editor.proofs.edit.undo_edition.Statement.{statement}
 use Rattle.editor.proofs.edit.undo_edition.Tie as tie
@@ -52,7 +52,9 @@ same-length-4 c = omega arith
 
 -- src/edit.rt:285:1
 returns-2 : tie.Need-returns-2
-returns-2 c = undo-shows (c .before .before .before .before .before .before .before .before .before .before .before .before .before .before .before .before .before .before .args .sw) (length (c .before .before .before .before .before .before .before .before .before .before .before .before .before .before .before .before .before .before .args .table .now)) (lentOf (c .before .before .before .before .before .before .before .before .before .before .before .before .before .before .before .before .before .before .args .text .now) (c .before .before .before .before .before .before .before .before .before .before .before .before .before .before .before .before .before .before .args .used) (c .before .before .before .before .before .before .before .before .before .before .before .before .before .before .before .before .before .before .args .journal .now) (c .before .before .before .before .before .before .before .before .before .before .before .before .before .before .before .before .before .before .args .kept)) _ _ _ _ _ _ _
+unfolding undo
+returns-2 c = let b = lentOf (c .before .before .before .before .before .before .before .before .before .before .before .before .before .before .before .before .before .before .args .text .now) (c .before .before .before .before .before .before .before .before .before .before .before .before .before .before .before .before .before .before .args .used) (c .before .before .before .before .before .before .before .before .before .before .before .before .before .before .before .before .before .before .args .journal .now) (c .before .before .before .before .before .before .before .before .before .before .before .before .before .before .before .before .before .before .args .kept) in
+    opened-shows (c .before .before .before .before .before .before .before .before .before .before .before .before .before .before .before .before .before .before .args .sw) (length (c .before .before .before .before .before .before .before .before .before .before .before .before .before .before .before .before .before .before .args .table .now)) b (λ w. undoRefusal (c .before .before .before .before .before .before .before .before .before .before .before .before .before .before .before .before .before .before .args .sw) w b) (λ _. withUndo b) _ _ _ _ _ _ _
     (opens-taken (c .before .before .before .before .before .before .before .before .before .before .before .before .before .before .before .before .before .before .args .sw) _ (c .before .before .before .before .before .before .before .before .nodes .given .1) (c .before .before .before .before .before .before .before .before .before .before .before .before .open-text .ensures)) (c .before .before .before .before .before .before .before .before .before .before .before .before .open-text .kept .1 .1 .1 .1 .1 .0) (c .before .before .before .before .undo-read .ensures)
 
 pub undo-edition-spec : {M : Type 1} → statement M

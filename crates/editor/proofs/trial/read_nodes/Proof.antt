@@ -1,6 +1,6 @@
 use native.Mathlib.Omega.{arith}
 use mathlib.Core.Path.{_≡_, refl, sym, ap, _∙_}
-use Rattle.editor.proofs.CallLaws.{taken-nodes, refused-nodes}
+use Rattle.reader.proofs.SizeLaws.{taken-nodes, refused-nodes}
 use borrow.Author.Needs.{needs}
 use Rattle.editor.proofs.trial.read_nodes.Statement.{statement}
 use Rattle.editor.proofs.trial.read_nodes.Tie as tie
