@@ -226,7 +226,8 @@ def named_calls(text, member):
 
 def fill(name, fn, answers_file):
     path = os.path.join('crates', name, 'proofs', fn, 'Proof.antt')
-    text = skeleton(name, fn, path)
+    # the skeleton's places in the code would be wrong after the next edit of it
+    text = re.sub(r'^-- src/\S+:\d+:\d+\n', '', skeleton(name, fn, path), flags=re.M)
     last = os.path.basename(fn)
     members = last[1:].split('+') if last.startswith('+') else []
     tuples = ''

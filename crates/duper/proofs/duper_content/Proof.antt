@@ -8,39 +8,30 @@ use Rattle.duper.proofs.duper_content.Reads as reads
 use Rattle.duper.proofs.duper_content.Lts as lts
 use Rattle.reader.proofs.content.content.Reads as content-reads
 
--- src/lib.rt:28:11
 content-requires : tie.Need-content-requires
 content-requires c κs = search needs
 
--- src/lib.rt:29:22
 enum-known-count : tie.Need-enum-known-count
 enum-known-count c = search needs
 
--- src/lib.rt:30:24
 enum-known-number : tie.Need-enum-known-number
 enum-known-number c = search needs
 
--- src/lib.rt:30:35
 cast-result : tie.Need-cast-result
 cast-result c = omega arith
 
--- src/lib.rt:30:35
 mul-result : tie.Need-mul-result
 mul-result c = omega arith
 
--- src/lib.rt:24:1
 same-length : tie.Need-same-length
 same-length c = omega arith
 
--- src/lib.rt:24:1
 returns : tie.Need-returns
 returns c = (given-number _ _ (sym (c .before .count .given .1) ∙ c .before .before .before .before .before .content .ensures .0), c .before .before .before .before .before .content .ensures .1)
 
--- src/lib.rt:24:1
 same-length-2 : tie.Need-same-length-2
 same-length-2 c = omega arith
 
--- src/lib.rt:24:1
 returns-2 : tie.Need-returns-2
 returns-2 c = (declined-number _ _ (sym (c .before .number .given .1) ∙ c .before .before .before .before .before .content .ensures .0), c .before .before .before .before .before .content .ensures .1)
 

@@ -9,27 +9,21 @@ use Rattle.duper.proofs.duper_correct.Lts as lts
 use Rattle.duper.proofs.tell.Reads as tell-reads
 use Rattle.editor.proofs.edit.correct.Reads as correct-reads
 
--- src/lib.rt:66:9
 correct-requires : tie.Need-correct-requires
 correct-requires c κs = search needs
 
--- src/lib.rt:67:5
 tell-requires : tie.Need-tell-requires
 tell-requires c κs = fits (correct-place presentEdition _ _ _ _) (c .before .before .before .before .before .before .before .correct .ensures)
 
--- src/lib.rt:53:1
 same-length : tie.Need-same-length
 same-length c = omega arith
 
--- src/lib.rt:53:1
 same-length-2 : tie.Need-same-length-2
 same-length-2 c = omega arith
 
--- src/lib.rt:53:1
 same-length-3 : tie.Need-same-length-3
 same-length-3 c = omega arith
 
--- src/lib.rt:53:1
 returns : tie.Need-returns
 returns c = crosses (c .before .before .before .before .before .before .before .before .correct .ensures) (c .tell .ensures .0) (c .tell .ensures .1)
 

@@ -11,43 +11,33 @@ use Rattle.duper.proofs.duper_read.Reads as reads
 use Rattle.duper.proofs.duper_read.Lts as lts
 use Rattle.reader.proofs.read.read.Reads as read-reads
 
--- src/lib.rt:16:11
 read-requires : tie.Need-read-requires
 read-requires c κs = search needs
 
--- src/lib.rt:17:24
 enum-known-nodes : tie.Need-enum-known-nodes
 enum-known-nodes c = search needs
 
--- src/lib.rt:18:26
 enum-known-number : tie.Need-enum-known-number
 enum-known-number c = search needs
 
--- src/lib.rt:18:44
 cast-result : tie.Need-cast-result
 cast-result c = omega arith
 
--- src/lib.rt:18:44
 mul-result : tie.Need-mul-result
 mul-result c = omega arith
 
--- src/lib.rt:18:44
 add-result : tie.Need-add-result
 add-result c = omega (arith, place-small presentEdition (length (c .before .before .before .before .before .before .before .before .before .args .table .now)) (c .before .before .before .before .before .before .before .before .before .args .text .now) _ _ (sym (c .before .number .given .1) ∙ c .before .before .before .before .before .read .ensures .0))
 
--- src/lib.rt:12:1
 same-length : tie.Need-same-length
 same-length c = omega arith
 
--- src/lib.rt:12:1
 returns : tie.Need-returns
 returns c = (taken-number _ _ (sym (c .before .nodes .given .1) ∙ c .before .before .before .before .before .read .ensures .0), c .before .before .before .before .before .read .ensures .1)
 
--- src/lib.rt:12:1
 same-length-2 : tie.Need-same-length-2
 same-length-2 c = omega arith
 
--- src/lib.rt:12:1
 returns-2 : tie.Need-returns-2
 returns-2 c = (refused-number _ _ _ (sym (c .before .number .given .1) ∙ c .before .before .before .before .before .read .ensures .0), c .before .before .before .before .before .read .ensures .1)
 

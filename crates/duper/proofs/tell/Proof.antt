@@ -9,32 +9,25 @@ use Rattle.duper.proofs.tell.Tie as tie
 use Rattle.duper.proofs.tell.Reads as reads
 use Rattle.duper.proofs.tell.Lts as lts
 
--- src/lib.rt:45:26
 enum-told : tie.Need-enum-told
 enum-told c = search needs
 
--- src/lib.rt:46:26
 enum-known-verdict : tie.Need-enum-known-verdict
 enum-known-verdict c = search needs
 
--- src/lib.rt:46:44
 cast-result : tie.Need-cast-result
 cast-result c = omega arith
 
--- src/lib.rt:46:44
 mul-result : tie.Need-mul-result
 mul-result c = omega arith
 
--- src/lib.rt:46:44
 add-result : tie.Need-add-result
 add-result c = omega (arith, told-place (c .before .verdict .given .1) (c .before .before .before .before .pre))
 
--- src/lib.rt:38:1
 returns : tie.Need-returns
 unfolding wordsOf
 returns c = (told-done (c .enum-told .given .1), refl)
 
--- src/lib.rt:38:1
 returns-2 : tie.Need-returns-2
 unfolding wordsOf
 returns-2 c = (told-refused (c .before .verdict .given .1), refl)

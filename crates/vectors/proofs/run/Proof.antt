@@ -13,95 +13,72 @@ use Rattle.vectors.proofs.show.front.Reads as front-reads
 use Rattle.vectors.proofs.show.line.Reads as line-reads
 use Rattle.vectors.proofs.tokens.tokens.Reads as tokens-reads
 
--- src/main.rt:56:20
 slice-aggregate-line : tie.Need-slice-aggregate-line
 slice-aggregate-line c = omega arith
 
--- src/main.rt:56:9
 line-requires : tie.Need-line-requires
 line-requires c κs = search needs
 
--- src/main.rt:57:9
 returns : tie.Need-returns
 returns c = search needs
 
--- src/main.rt:60:19
 sub-plain : tie.Need-sub-plain
 sub-plain c = omega arith
 
--- src/main.rt:60:19
 part-plain-start : tie.Need-part-plain-start
 part-plain-start c = omega arith
 
--- src/main.rt:60:19
 part-plain-end : tie.Need-part-plain-end
 part-plain-end c = omega arith
 
--- src/main.rt:60:31
 slice-aggregate-plain : tie.Need-slice-aggregate-plain
 slice-aggregate-plain c = omega arith
 
--- src/main.rt:60:9
 plain-requires : tie.Need-plain-requires
 plain-requires c κs = search needs
 
--- src/main.rt:62:9
 returns-2 : tie.Need-returns-2
 returns-2 c = search needs
 
--- src/main.rt:64:16
 shared-slice-read-mode : tie.Need-shared-slice-read-mode
 shared-slice-read-mode c = search needs
 
--- src/main.rt:66:24
 array-share-prefix-space : tie.Need-array-share-prefix-space
 array-share-prefix-space c = omega arith
 
--- src/main.rt:66:24
 slice-aggregate-tokens : tie.Need-slice-aggregate-tokens
 slice-aggregate-tokens c = sym (length-take-le _ _ (omega arith))
 
--- src/main.rt:66:9
 tokens-requires : tie.Need-tokens-requires
 tokens-requires c κs = search needs
 
--- src/main.rt:67:9
 returns-3 : tie.Need-returns-3
 returns-3 c = search needs
 
--- src/main.rt:70:45
 array-share-prefix-space-2 : tie.Need-array-share-prefix-space-2
 array-share-prefix-space-2 c = omega arith
 
--- src/main.rt:70:45
 slice-aggregate-valid-front : tie.Need-slice-aggregate-valid-front
 slice-aggregate-valid-front c = sym (length-take-le _ _ (omega arith))
 
--- src/main.rt:70:21
 valid-front-requires : tie.Need-valid-front-requires
 valid-front-requires c κs = search needs
 
--- src/main.rt:70:9
 front-requires : tie.Need-front-requires
 front-requires c κs = search needs
 
--- src/main.rt:71:9
 returns-4 : tie.Need-returns-4
 returns-4 c = search needs
 
--- src/main.rt:73:19
 array-share-prefix-space-3 : tie.Need-array-share-prefix-space-3
 array-share-prefix-space-3 c = omega arith
 
--- src/main.rt:73:19
 slice-aggregate-compare : tie.Need-slice-aggregate-compare
 slice-aggregate-compare c = sym (length-take-le _ _ (omega arith))
 
--- src/main.rt:73:5
 compare-requires : tie.Need-compare-requires
 compare-requires c κs = search needs
 
--- src/main.rt:54:1
 returns-5 : tie.Need-returns-5
 returns-5 c = search needs
 

@@ -14,51 +14,39 @@ Inv-loop s from₀ i₀ from i = from ≤ i
 abbrev μ-loop : tie.MeasureT-loop
 μ-loop s from₀ i₀ from i = length s - i
 
--- src/main.rt:80:5
 loop-holds : tie.Need-loop-holds Inv-loop μ-loop
 loop-holds c = omega arith
 
--- src/main.rt:82:9
 add-i : tie.Need-add-i Inv-loop μ-loop
 add-i c = omega arith
 
--- src/main.rt:83:12
 shared-slice-read-if1 : tie.Need-shared-slice-read-if1 Inv-loop μ-loop
 shared-slice-read-if1 c = search needs
 
--- src/main.rt:84:17
 sub-run : tie.Need-sub-run Inv-loop μ-loop
 sub-run c = omega arith
 
--- src/main.rt:84:17
 part-run-start : tie.Need-part-run-start Inv-loop μ-loop
 part-run-start c = omega arith
 
--- src/main.rt:84:17
 part-run-end : tie.Need-part-run-end Inv-loop μ-loop
 part-run-end c = omega arith
 
--- src/main.rt:84:13
 run-requires : tie.Need-run-requires Inv-loop μ-loop
 run-requires c κs = search needs
 
--- src/main.rt:80:5
 loop-less : tie.Need-loop-less Inv-loop μ-loop
 loop-less c = omega arith
 
--- src/main.rt:80:5
 loop-again : tie.Need-loop-again Inv-loop μ-loop
 loop-again c = omega arith
 
--- src/main.rt:80:5
 loop-less-2 : tie.Need-loop-less-2 Inv-loop μ-loop
 loop-less-2 c = omega arith
 
--- src/main.rt:80:5
 loop-again-2 : tie.Need-loop-again-2 Inv-loop μ-loop
 loop-again-2 c = omega arith
 
--- src/main.rt:77:1
 returns : tie.Need-returns Inv-loop μ-loop
 returns c = search needs
 

@@ -17,31 +17,24 @@ Inv-loop src dst₀ at i₀ dst i = (i ≤ length src) × (length dst ≡ length
 abbrev μ-loop : tie.MeasureT-loop
 μ-loop src dst₀ at i₀ dst i = length src - i
 
--- src/buffers.rt:13:5
 loop-holds : tie.Need-loop-holds Inv-loop μ-loop
 loop-holds c = (omega arith, refl, paste-zero (c .args .dst .now) (c .args .at) (c .args .src .now))
 
--- src/buffers.rt:14:23
 shared-slice-read-dst : tie.Need-shared-slice-read-dst Inv-loop μ-loop
 shared-slice-read-dst c = search needs
 
--- src/buffers.rt:14:13
 add-dst : tie.Need-add-dst Inv-loop μ-loop
 add-dst c = omega arith
 
--- src/buffers.rt:14:9
 slice-write-dst : tie.Need-slice-write-dst Inv-loop μ-loop
 slice-write-dst c = omega arith
 
--- src/buffers.rt:15:9
 add-i : tie.Need-add-i Inv-loop μ-loop
 add-i c = omega arith
 
--- src/buffers.rt:13:5
 loop-less : tie.Need-loop-less Inv-loop μ-loop
 loop-less c = omega arith
 
--- src/buffers.rt:13:5
 loop-again : tie.Need-loop-again Inv-loop μ-loop
 loop-again c = (
   omega arith,
@@ -50,11 +43,9 @@ loop-again c = (
       ∙ paste-next (c .before .before .before .args .dst .now) (c .before .before .before .args .at) (c .before .before .before .args .src .now) (c .before .before .loop .i) (omega arith) (omega arith),
 )
 
--- src/buffers.rt:8:1
 same-length : tie.Need-same-length Inv-loop μ-loop
 same-length c = c .before .loop .inv .1
 
--- src/buffers.rt:8:1
 returns : tie.Need-returns Inv-loop μ-loop
 returns c = c .before .loop .inv .2 ∙ paste-whole (c .before .before .args .dst .now) (c .before .before .args .at) (c .before .before .args .src .now) (c .before .loop .i) (omega arith)
 

@@ -12,43 +12,33 @@ use Rattle.editor.proofs.buffers.put_splice.Reads as reads
 use Rattle.editor.proofs.buffers.put_splice.Lts as lts
 use Rattle.editor.proofs.buffers.put_at.Reads as put-at-reads
 
--- src/buffers.rt:45:12
 slice-aggregate-put-at : tie.Need-slice-aggregate-put-at
 slice-aggregate-put-at c = sym (length-take-le _ _ (omega arith))
 
--- src/buffers.rt:45:5
 put-at-requires : tie.Need-put-at-requires
 put-at-requires c κs = let l = length-take-le (c .before .before .before .before .before .args .start) (c .before .before .before .before .before .args .text .now) (omega arith) in omega arith
 
--- src/buffers.rt:46:5
 put-at-requires-2 : tie.Need-put-at-requires-2
 put-at-requires-2 c κs = search needs
 
--- src/buffers.rt:47:12
 sub-put-at : tie.Need-sub-put-at
 sub-put-at c = omega arith
 
--- src/buffers.rt:47:12
 part-put-at-start : tie.Need-part-put-at-start
 part-put-at-start c = omega arith
 
--- src/buffers.rt:47:12
 part-put-at-end : tie.Need-part-put-at-end
 part-put-at-end c = omega arith
 
--- src/buffers.rt:47:32
 add-put-at : tie.Need-add-put-at
 add-put-at c = omega arith
 
--- src/buffers.rt:47:5
 put-at-requires-3 : tie.Need-put-at-requires-3
 put-at-requires-3 c κs = search needs
 
--- src/buffers.rt:41:1
 same-length : tie.Need-same-length
 same-length c = omega arith
 
--- src/buffers.rt:41:1
 returns : tie.Need-returns
 returns c = c .before .before .put-at3 .ensures
     ∙ ap (overwritten (c .before .before .before .before .before .before .before .before .before .before .before .before .before .before .before .before .before .args .start + length (c .before .before .before .before .before .before .before .before .before .before .before .before .before .before .before .before .before .args .replacement .now)) (take (length (c .before .before .before .before .before .before .before .before .before .before .before .before .before .before .before .before .before .args .text .now) - c .before .before .before .before .before .before .before .before .before .before .before .before .before .before .before .before .before .args .stop) (drop (c .before .before .before .before .before .before .before .before .before .before .before .before .before .before .before .before .before .args .stop) (c .before .before .before .before .before .before .before .before .before .before .before .before .before .before .before .before .before .args .text .now))))

@@ -13,19 +13,15 @@ use Rattle.editor.proofs.buffers.put_text.Lts as lts
 use Rattle.editor.proofs.buffers.put_at.Reads as put-at-reads
 use Rattle.editor.proofs.buffers.zero_out.Reads as zero-out-reads
 
--- src/buffers.rt:36:5
 put-at-requires : tie.Need-put-at-requires
 put-at-requires c κs = search needs
 
--- src/buffers.rt:37:5
 zero-out-requires : tie.Need-zero-out-requires
 zero-out-requires c κs = search needs
 
--- src/buffers.rt:32:1
 same-length : tie.Need-same-length
 same-length c = omega arith
 
--- src/buffers.rt:32:1
 returns : tie.Need-returns
 returns c = c .before .before .zero-out .ensures ∙ ap (overwritten (length (c .before .before .before .before .before .before .before .before .before .before .args .new .now)) (replicate (c .before .before .before .before .before .before .before .before .before .before .args .used - length (c .before .before .before .before .before .before .before .before .before .before .args .new .now)) 0)) (c .before .before .before .before .before .before .put-at .ensures) ∙ over-text (c .before .before .before .before .before .before .before .before .before .before .args .used) (c .before .before .before .before .before .before .before .before .before .before .args .new .now) (c .before .before .before .before .before .before .before .before .before .before .args .dst .now) (omega arith)
 

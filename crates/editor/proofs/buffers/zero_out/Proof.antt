@@ -17,23 +17,18 @@ Inv-loop dst₀ from to i₀ dst i = (from ≤ i) × (i ≤ max from to) × (len
 abbrev μ-loop : tie.MeasureT-loop
 μ-loop dst₀ from to i₀ dst i = to - i
 
--- src/buffers.rt:25:5
 loop-holds : tie.Need-loop-holds Inv-loop μ-loop
 loop-holds c = (omega arith, omega arith, refl, zero-start (c .args .dst .now) (c .args .from) (c .args .to))
 
--- src/buffers.rt:26:9
 slice-write-dst : tie.Need-slice-write-dst Inv-loop μ-loop
 slice-write-dst c = omega arith
 
--- src/buffers.rt:27:9
 add-i : tie.Need-add-i Inv-loop μ-loop
 add-i c = omega arith
 
--- src/buffers.rt:25:5
 loop-less : tie.Need-loop-less Inv-loop μ-loop
 loop-less c = omega arith
 
--- src/buffers.rt:25:5
 loop-again : tie.Need-loop-again Inv-loop μ-loop
 loop-again c = (
   omega arith,
@@ -43,11 +38,9 @@ loop-again c = (
       ∙ zero-next (c .before .before .args .dst .now) (c .before .before .args .from) (c .before .before .args .to) (c .before .loop .i) (omega arith) (omega arith) (omega arith),
 )
 
--- src/buffers.rt:20:1
 same-length : tie.Need-same-length Inv-loop μ-loop
 same-length c = c .before .loop .inv .2
 
--- src/buffers.rt:20:1
 returns : tie.Need-returns Inv-loop μ-loop
 returns c = c .before .loop .inv .3 ∙ zero-whole (c .before .before .args .dst .now) (c .before .before .args .from) (c .before .before .args .to) (c .before .loop .i) (omega arith) (omega arith)
 

@@ -8,27 +8,21 @@ use Rattle.editor.proofs.edit.correct.Lts as lts
 use Rattle.editor.proofs.edit.correct_edition.Reads as correct-edition-reads
 use Rattle.text.proofs.switches.present.Reads as present-reads
 
--- src/edit.rt:188:21
 present-requires : tie.Need-present-requires
 present-requires c κs = search needs
 
--- src/edit.rt:188:5
 correct-edition-requires : tie.Need-correct-edition-requires
 correct-edition-requires c κs = search needs
 
--- src/edit.rt:177:1
 same-length : tie.Need-same-length
 same-length c = omega arith
 
--- src/edit.rt:177:1
 same-length-2 : tie.Need-same-length-2
 same-length-2 c = omega arith
 
--- src/edit.rt:177:1
 same-length-3 : tie.Need-same-length-3
 same-length-3 c = omega arith
 
--- src/edit.rt:177:1
 returns : tie.Need-returns
 returns c = rw (c .before .before .before .before .before .before .before .before .before .before .present .ensures) at (c .before .before .before .before .before .before .correct-edition .ensures)
 

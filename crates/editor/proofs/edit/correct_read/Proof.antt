@@ -16,71 +16,55 @@ use Rattle.editor.proofs.edit.replace.Reads as replace-reads
 use Rattle.reader.proofs.read.one_value.Reads as one-value-reads
 use Rattle.reader.proofs.rows.word.Reads as word-reads
 
--- src/edit.rt:137:9
 refusal-requires : tie.Need-refusal-requires
 refusal-requires c κs = search needs
 
--- src/edit.rt:137:9
 returns : tie.Need-returns
 returns c = shows-refused (c .before .before .before .before .before .before .args .sw) _ (lentOf (c .before .before .before .before .before .before .args .text .now) (c .before .before .before .before .before .before .args .used) (c .before .before .before .before .before .before .args .journal .now) (c .before .before .before .before .before .before .args .kept)) _ _ _ _ _ 12
     (refused-12 (c .before .before .before .before .before .before .args .sw) _ (lentOf (c .before .before .before .before .before .before .args .text .now) (c .before .before .before .before .before .before .args .used) (c .before .before .before .before .before .before .args .journal .now) (c .before .before .before .before .before .before .args .kept)) (c .before .before .before .before .before .before .args .node) (c .before .before .before .before .before .before .args .replacement .now) _ _ (c .before .before .before .before .before .before .pre) (c .before .if1 .taken))
     (omega arith) (c .refusal .ensures) (c .before .before .before .before .before .before .pre .table-now)
 
--- src/edit.rt:139:9
 one-value-requires : tie.Need-one-value-requires
 one-value-requires c κs = search needs
 
--- src/edit.rt:140:9
 refusal-requires-2 : tie.Need-refusal-requires-2
 refusal-requires-2 c κs = search needs
 
--- src/edit.rt:140:9
 returns-2 : tie.Need-returns-2
 returns-2 c = shows-refused (c .before .before .before .before .before .before .before .before .args .sw) _ (lentOf (c .before .before .before .before .before .before .before .before .args .text .now) (c .before .before .before .before .before .before .before .before .args .used) (c .before .before .before .before .before .before .before .before .args .journal .now) (c .before .before .before .before .before .before .before .before .args .kept)) _ _ _ _ _ 13
     (refused-13 (c .before .before .before .before .before .before .before .before .args .sw) _ (lentOf (c .before .before .before .before .before .before .before .before .args .text .now) (c .before .before .before .before .before .before .before .before .args .used) (c .before .before .before .before .before .before .before .before .args .journal .now) (c .before .before .before .before .before .before .before .before .args .kept)) (c .before .before .before .before .before .before .before .before .args .node) (c .before .before .before .before .before .before .before .before .args .replacement .now) _ _ (c .before .before .before .before .before .before .before .before .pre) (c .before .before .before .if1 .left) (sym (c .before .before .one-value .ensures) ∙ not-true _ (c .before .if2 .taken)))
     (omega arith) (c .refusal2 .ensures) (c .before .before .before .before .before .before .before .before .pre .table-now)
 
--- src/edit.rt:142:29
 mul-word : tie.Need-mul-word
 mul-word c = let w = words-in (c .before .before .before .before .before .before .before .before .args .sw) _ (lentOf (c .before .before .before .before .before .before .before .before .args .text .now) (c .before .before .before .before .before .before .before .before .args .used) (c .before .before .before .before .before .before .before .before .args .journal .now) (c .before .before .before .before .before .before .before .before .args .kept)) (c .before .before .before .before .before .before .before .before .args .node) (c .before .before .before .before .before .before .before .before .args .replacement .now) (c .before .before .before .before .before .before .before .before .args .table .now) _ (c .before .before .before .before .before .before .before .before .pre) (c .before .before .before .if1 .left) refl in omega arith
 
--- src/edit.rt:142:29
 add-word : tie.Need-add-word
 add-word c = let w = words-in (c .before .before .before .before .before .before .before .before .args .sw) _ (lentOf (c .before .before .before .before .before .before .before .before .args .text .now) (c .before .before .before .before .before .before .before .before .args .used) (c .before .before .before .before .before .before .before .before .args .journal .now) (c .before .before .before .before .before .before .before .before .args .kept)) (c .before .before .before .before .before .before .before .before .args .node) (c .before .before .before .before .before .before .before .before .args .replacement .now) (c .before .before .before .before .before .before .before .before .args .table .now) _ (c .before .before .before .before .before .before .before .before .pre) (c .before .before .before .if1 .left) refl in omega arith
 
--- src/edit.rt:142:9
 word-requires : tie.Need-word-requires
 word-requires c κs = let w = words-in (c .before .before .before .before .before .before .before .before .args .sw) _ (lentOf (c .before .before .before .before .before .before .before .before .args .text .now) (c .before .before .before .before .before .before .before .before .args .used) (c .before .before .before .before .before .before .before .before .args .journal .now) (c .before .before .before .before .before .before .before .before .args .kept)) (c .before .before .before .before .before .before .before .before .args .node) (c .before .before .before .before .before .before .before .before .args .replacement .now) (c .before .before .before .before .before .before .before .before .args .table .now) _ (c .before .before .before .before .before .before .before .before .pre) (c .before .before .before .if1 .left) refl in omega arith
 
--- src/edit.rt:143:28
 mul-word-2 : tie.Need-mul-word-2
 mul-word-2 c = let w = words-in (c .before .before .before .before .before .before .before .before .before .before .args .sw) _ (lentOf (c .before .before .before .before .before .before .before .before .before .before .args .text .now) (c .before .before .before .before .before .before .before .before .before .before .args .used) (c .before .before .before .before .before .before .before .before .before .before .args .journal .now) (c .before .before .before .before .before .before .before .before .before .before .args .kept)) (c .before .before .before .before .before .before .before .before .before .before .args .node) (c .before .before .before .before .before .before .before .before .before .before .args .replacement .now) (c .before .before .before .before .before .before .before .before .before .before .args .table .now) _ (c .before .before .before .before .before .before .before .before .before .before .pre) (c .before .before .before .before .before .if1 .left) refl in omega arith
 
--- src/edit.rt:143:28
 add-word-2 : tie.Need-add-word-2
 add-word-2 c = let w = words-in (c .before .before .before .before .before .before .before .before .before .before .args .sw) _ (lentOf (c .before .before .before .before .before .before .before .before .before .before .args .text .now) (c .before .before .before .before .before .before .before .before .before .before .args .used) (c .before .before .before .before .before .before .before .before .before .before .args .journal .now) (c .before .before .before .before .before .before .before .before .before .before .args .kept)) (c .before .before .before .before .before .before .before .before .before .before .args .node) (c .before .before .before .before .before .before .before .before .before .before .args .replacement .now) (c .before .before .before .before .before .before .before .before .before .before .args .table .now) _ (c .before .before .before .before .before .before .before .before .before .before .pre) (c .before .before .before .before .before .if1 .left) refl in omega arith
 
--- src/edit.rt:143:9
 word-requires-2 : tie.Need-word-requires-2
 word-requires-2 c κs = let w = words-in (c .before .before .before .before .before .before .before .before .before .before .args .sw) _ (lentOf (c .before .before .before .before .before .before .before .before .before .before .args .text .now) (c .before .before .before .before .before .before .before .before .before .before .args .used) (c .before .before .before .before .before .before .before .before .before .before .args .journal .now) (c .before .before .before .before .before .before .before .before .before .before .args .kept)) (c .before .before .before .before .before .before .before .before .before .before .args .node) (c .before .before .before .before .before .before .before .before .before .before .args .replacement .now) (c .before .before .before .before .before .before .before .before .before .before .args .table .now) _ (c .before .before .before .before .before .before .before .before .before .before .pre) (c .before .before .before .before .before .if1 .left) refl in omega arith
 
--- src/edit.rt:144:5
 replace-requires : tie.Need-replace-requires
 replace-requires c κs = (c .before .before .before .before .before .before .before .before .before .before .before .before .before .before .pre, value-within (c .before .before .before .before .before .before .before .before .before .before .before .before .before .before .args .sw) _ (lentOf (c .before .before .before .before .before .before .before .before .before .before .before .before .before .before .args .text .now) (c .before .before .before .before .before .before .before .before .before .before .before .before .before .before .args .used) (c .before .before .before .before .before .before .before .before .before .before .before .before .before .before .args .journal .now) (c .before .before .before .before .before .before .before .before .before .before .before .before .before .before .args .kept)) (c .before .before .before .before .before .before .before .before .before .before .before .before .before .before .args .node) (c .before .before .before .before .before .before .before .before .before .before .before .before .before .before .args .replacement .now) (c .before .before .before .before .before .before .before .before .before .before .before .before .before .before .args .table .now) _ (c .before .before .before .before .before .before .before .before .before .before .before .before .before .before .pre) (c .before .before .before .before .before .before .before .before .before .if1 .left) _ _ (c .before .before .before .before .before .word .ensures) (c .before .before .before .word2 .ensures) (sym (c .before .before .before .before .before .before .before .before .one-value .ensures) ∙ not-false _ (c .before .before .before .before .before .before .before .if2 .left)))
 
--- src/edit.rt:122:1
 same-length : tie.Need-same-length
 same-length c = omega arith
 
--- src/edit.rt:122:1
 same-length-2 : tie.Need-same-length-2
 same-length-2 c = omega arith
 
--- src/edit.rt:122:1
 same-length-3 : tie.Need-same-length-3
 same-length-3 c = omega arith
 
--- src/edit.rt:122:1
 returns-3 : tie.Need-returns-3
 returns-3 c = corrects (c .before .before .before .before .before .before .before .before .before .before .before .before .before .before .before .before .before .before .before .before .before .args .sw) _ (lentOf (c .before .before .before .before .before .before .before .before .before .before .before .before .before .before .before .before .before .before .before .before .before .args .text .now) (c .before .before .before .before .before .before .before .before .before .before .before .before .before .before .before .before .before .before .before .before .before .args .used) (c .before .before .before .before .before .before .before .before .before .before .before .before .before .before .before .before .before .before .before .before .before .args .journal .now) (c .before .before .before .before .before .before .before .before .before .before .before .before .before .before .before .before .before .before .before .before .before .args .kept)) (c .before .before .before .before .before .before .before .before .before .before .before .before .before .before .before .before .before .before .before .before .before .args .node) (c .before .before .before .before .before .before .before .before .before .before .before .before .before .before .before .before .before .before .before .before .before .args .replacement .now) (c .before .before .before .before .before .before .before .before .before .before .before .before .before .before .before .before .before .before .before .before .before .args .table .now) _ (c .before .before .before .before .before .before .before .before .before .before .before .before .before .before .before .before .before .before .before .before .before .pre) (c .before .before .before .before .before .before .before .before .before .before .before .before .before .before .before .before .if1 .left) _ _ (c .before .before .before .before .before .before .before .before .before .before .before .before .word .ensures) (c .before .before .before .before .before .before .before .before .before .before .word2 .ensures) (sym (c .before .before .before .before .before .before .before .before .before .before .before .before .before .before .before .one-value .ensures) ∙ not-false _ (c .before .before .before .before .before .before .before .before .before .before .before .before .before .before .if2 .left)) _ _ _ _ (c .before .before .before .before .before .before .replace .ensures)
 

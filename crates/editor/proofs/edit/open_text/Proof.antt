@@ -12,45 +12,35 @@ use Rattle.editor.proofs.edit.open_text.Lts as lts
 use Rattle.reader.proofs.read.read_edition.Reads as read-edition-reads
 use Rattle.reader.proofs.rows.clear.Reads as clear-reads
 
--- src/edit.rt:63:9
 clear-requires : tie.Need-clear-requires
 clear-requires c κs = search needs
 
--- src/edit.rt:64:9
 same-length : tie.Need-same-length
 same-length c = omega arith
 
--- src/edit.rt:64:9
 returns : tie.Need-returns
 returns c = opens-bad (c .before .before .before .before .before .before .before .before .args .sw) (length (c .before .before .before .before .before .before .before .before .args .table .now)) (lentOf (c .before .before .before .before .before .before .before .before .args .text .now) (c .before .before .before .before .before .before .before .before .args .used) (c .before .before .before .before .before .before .before .before .args .journal .now) (c .before .before .before .before .before .before .before .before .args .kept)) _
     (long-text (c .before .before .before .before .before .before .before .before .args .sw) (length (c .before .before .before .before .before .before .before .before .args .table .now)) (lentOf (c .before .before .before .before .before .before .before .before .args .text .now) (c .before .before .before .before .before .before .before .before .args .used) (c .before .before .before .before .before .before .before .before .args .journal .now) (c .before .before .before .before .before .before .before .before .args .kept)) (c .before .before .before .before .if1 .taken)) (c .before .before .clear .ensures)
 
--- src/edit.rt:67:9
 clear-requires-2 : tie.Need-clear-requires-2
 clear-requires-2 c κs = search needs
 
--- src/edit.rt:68:9
 same-length-2 : tie.Need-same-length-2
 same-length-2 c = omega arith
 
--- src/edit.rt:68:9
 returns-2 : tie.Need-returns-2
 returns-2 c = opens-bad (c .before .before .before .before .before .before .before .before .before .args .sw) (length (c .before .before .before .before .before .before .before .before .before .args .table .now)) (lentOf (c .before .before .before .before .before .before .before .before .before .args .text .now) (c .before .before .before .before .before .before .before .before .before .args .used) (c .before .before .before .before .before .before .before .before .before .args .journal .now) (c .before .before .before .before .before .before .before .before .before .args .kept)) _
     (long-journal (c .before .before .before .before .before .before .before .before .before .args .sw) (length (c .before .before .before .before .before .before .before .before .before .args .table .now)) (lentOf (c .before .before .before .before .before .before .before .before .before .args .text .now) (c .before .before .before .before .before .before .before .before .before .args .used) (c .before .before .before .before .before .before .before .before .before .args .journal .now) (c .before .before .before .before .before .before .before .before .before .args .kept)) (c .before .before .before .before .before .if1 .left) (c .before .before .before .before .if2 .taken)) (c .before .before .clear2 .ensures)
 
--- src/edit.rt:70:22
 slice-aggregate-read-edition : tie.Need-slice-aggregate-read-edition
 slice-aggregate-read-edition c = sym (length-take-le _ _ (omega arith))
 
--- src/edit.rt:70:5
 read-edition-requires : tie.Need-read-edition-requires
 read-edition-requires c κs = search needs
 
--- src/edit.rt:59:1
 same-length-3 : tie.Need-same-length-3
 same-length-3 c = omega arith
 
--- src/edit.rt:59:1
 returns-3 : tie.Need-returns-3
 returns-3 c = opens-read (c .before .before .before .before .before .before .before .before .before .before .args .sw) (length (c .before .before .before .before .before .before .before .before .before .before .args .table .now)) (lentOf (c .before .before .before .before .before .before .before .before .before .before .args .text .now) (c .before .before .before .before .before .before .before .before .before .before .args .used) (c .before .before .before .before .before .before .before .before .before .before .args .journal .now) (c .before .before .before .before .before .before .before .before .before .before .args .kept)) _ _ (c .before .before .before .before .before .before .if1 .left) (c .before .before .before .before .before .if2 .left) (c .before .before .read-edition .ensures .0) (c .before .before .read-edition .ensures .1)
 

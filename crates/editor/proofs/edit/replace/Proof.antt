@@ -16,133 +16,102 @@ use Rattle.editor.proofs.edit.refusal.Reads as refusal-reads
 use Rattle.editor.proofs.journal.put_entry.Reads as put-entry-reads
 use Rattle.editor.proofs.trial.try_text.Reads as try-text-reads
 
--- src/edit.rt:89:15
 sub-old : tie.Need-sub-old
 sub-old c = omega arith
 
--- src/edit.rt:90:15
 add-new : tie.Need-add-new
 add-new c = omega arith
 
--- src/edit.rt:90:44
 sub-new : tie.Need-sub-new
 sub-new c = omega arith
 
--- src/edit.rt:90:15
 add-new-2 : tie.Need-add-new-2
 add-new-2 c = omega arith
 
--- src/edit.rt:92:9
 refusal-requires : tie.Need-refusal-requires
 refusal-requires c κs = search needs
 
--- src/edit.rt:92:9
 returns : tie.Need-returns
 returns c = shows-refused (c .before .before .before .before .before .before .args .sw) _ (lentOf (c .before .before .before .before .before .before .args .text .now) (c .before .before .before .before .before .before .args .used) (c .before .before .before .before .before .before .args .journal .now) (c .before .before .before .before .before .before .args .kept)) _ _ _ _ _ 14
     (refused-14 (c .before .before .before .before .before .before .args .sw) _ (lentOf (c .before .before .before .before .before .before .args .text .now) (c .before .before .before .before .before .before .args .used) (c .before .before .before .before .before .before .args .journal .now) (c .before .before .before .before .before .before .args .kept)) (c .before .before .before .before .before .before .args .start) (c .before .before .before .before .before .before .args .stop) (c .before .before .before .before .before .before .args .replacement .now) (c .before .before .before .before .before .before .pre .0 .used-fits) (c .before .before .before .before .before .before .pre .1) (omega arith))
     (omega arith) (c .refusal .ensures) (c .before .before .before .before .before .before .pre .0 .table-now)
 
--- src/edit.rt:95:9
 refusal-requires-2 : tie.Need-refusal-requires-2
 refusal-requires-2 c κs = search needs
 
--- src/edit.rt:95:9
 returns-2 : tie.Need-returns-2
 returns-2 c = shows-refused (c .before .before .before .before .before .before .before .args .sw) _ (lentOf (c .before .before .before .before .before .before .before .args .text .now) (c .before .before .before .before .before .before .before .args .used) (c .before .before .before .before .before .before .before .args .journal .now) (c .before .before .before .before .before .before .before .args .kept)) _ _ _ _ _ 14
     (refused-14 (c .before .before .before .before .before .before .before .args .sw) _ (lentOf (c .before .before .before .before .before .before .before .args .text .now) (c .before .before .before .before .before .before .before .args .used) (c .before .before .before .before .before .before .before .args .journal .now) (c .before .before .before .before .before .before .before .args .kept)) (c .before .before .before .before .before .before .before .args .start) (c .before .before .before .before .before .before .before .args .stop) (c .before .before .before .before .before .before .before .args .replacement .now) (c .before .before .before .before .before .before .before .pre .0 .used-fits) (c .before .before .before .before .before .before .before .pre .1) (omega arith))
     (omega arith) (c .refusal2 .ensures) (c .before .before .before .before .before .before .before .pre .0 .table-now)
 
--- src/edit.rt:97:8
 sub-if3 : tie.Need-sub-if3
 sub-if3 c = omega arith
 
--- src/edit.rt:97:31
 add-if3 : tie.Need-add-if3
 add-if3 c = omega arith
 
--- src/edit.rt:98:9
 refusal-requires-3 : tie.Need-refusal-requires-3
 refusal-requires-3 c κs = search needs
 
--- src/edit.rt:98:9
 returns-3 : tie.Need-returns-3
 returns-3 c = shows-refused (c .before .before .before .before .before .before .before .before .args .sw) _ (lentOf (c .before .before .before .before .before .before .before .before .args .text .now) (c .before .before .before .before .before .before .before .before .args .used) (c .before .before .before .before .before .before .before .before .args .journal .now) (c .before .before .before .before .before .before .before .before .args .kept)) _ _ _ _ _ 15
     (refused-15 (c .before .before .before .before .before .before .before .before .args .sw) _ (lentOf (c .before .before .before .before .before .before .before .before .args .text .now) (c .before .before .before .before .before .before .before .before .args .used) (c .before .before .before .before .before .before .before .before .args .journal .now) (c .before .before .before .before .before .before .before .before .args .kept)) (c .before .before .before .before .before .before .before .before .args .start) (c .before .before .before .before .before .before .before .before .args .stop) (c .before .before .before .before .before .before .before .before .args .replacement .now) (c .before .before .before .before .before .before .before .before .pre .0 .used-fits) (c .before .before .before .before .before .before .before .before .pre .1) (omega arith) (omega arith))
     (omega arith) (c .refusal3 .ensures) (c .before .before .before .before .before .before .before .before .pre .0 .table-now)
 
--- src/edit.rt:100:15
 add-end : tie.Need-add-end
 add-end c = omega arith
 
--- src/edit.rt:100:15
 add-end-2 : tie.Need-add-end-2
 add-end-2 c = omega arith
 
--- src/edit.rt:102:24
 slice-reshare-prefix-try-text : tie.Need-slice-reshare-prefix-try-text
 slice-reshare-prefix-try-text c = omega arith
 
--- src/edit.rt:102:24
 slice-aggregate-try-text : tie.Need-slice-aggregate-try-text
 slice-aggregate-try-text c = sym (length-take-le _ _ (omega arith))
 
--- src/edit.rt:102:65
 slice-aggregate-try-text-2 : tie.Need-slice-aggregate-try-text-2
 slice-aggregate-try-text-2 c = omega arith
 
--- src/edit.rt:102:11
 try-text-requires : tie.Need-try-text-requires
 try-text-requires c κs = let l = length-take-le (c .before .before .before .before .before .before .before .before .before .before .args .used) (c .before .before .before .before .before .before .before .before .before .before .args .text .now) (c .before .before .before .before .before .before .before .before .before .before .pre .0 .used-fits) in let z = length-replicate {A = ℕ} 65536 0 in (omega arith, omega arith, omega arith)
 
--- src/edit.rt:103:20
 enum-known-present : tie.Need-enum-known-present
 enum-known-present c = search needs
 
--- src/edit.rt:103:32
 refusal-requires-4 : tie.Need-refusal-requires-4
 refusal-requires-4 c κs = search needs
 
--- src/edit.rt:104:22
 enum-known-count : tie.Need-enum-known-count
 enum-known-count c = search needs
 
--- src/edit.rt:105:38
 sub-put-entry : tie.Need-sub-put-entry
 sub-put-entry c = omega arith
 
--- src/edit.rt:105:38
 part-put-entry-start : tie.Need-part-put-entry-start
 part-put-entry-start c = omega arith
 
--- src/edit.rt:105:38
 part-put-entry-end : tie.Need-part-put-entry-end
 part-put-entry-end c = omega arith
 
--- src/edit.rt:105:13
 put-entry-requires : tie.Need-put-entry-requires
 put-entry-requires c κs = search needs
 
--- src/edit.rt:106:34
 array-share-prefix-fresh : tie.Need-array-share-prefix-fresh
 array-share-prefix-fresh c = omega arith
 
--- src/edit.rt:106:34
 slice-aggregate-put-text : tie.Need-slice-aggregate-put-text
 slice-aggregate-put-text c = sym (length-take-le _ _ (omega arith))
 
--- src/edit.rt:106:13
 put-text-requires : tie.Need-put-text-requires
 put-text-requires c κs = let l = length-take-le (c .before .before .before .before .before .before .before .before .before .before .before .before .before .before .before .before .before .before .before .before .before .before .before .before .before .args .start + length (c .before .before .before .before .before .before .before .before .before .before .before .before .before .before .before .before .before .before .before .before .before .before .before .before .before .args .replacement .now) + (c .before .before .before .before .before .before .before .before .before .before .before .before .before .before .before .before .before .before .before .before .before .before .before .before .before .args .used - c .before .before .before .before .before .before .before .before .before .before .before .before .before .before .before .before .before .before .before .before .before .before .before .before .before .args .stop)) (c .before .before .before .before .before .before .before .before .before .before .before .before .before .before .try-text .last .1 .1 .1 .1 .1 .0) (omega arith) in (omega arith, omega arith)
 
--- src/edit.rt:74:1
 same-length : tie.Need-same-length
 same-length c = omega arith
 
--- src/edit.rt:74:1
 same-length-2 : tie.Need-same-length-2
 same-length-2 c = omega arith
 
--- src/edit.rt:74:1
 returns-4 : tie.Need-returns-4
 unfolding textOf
 returns-4 c = let t = does-not (c .before .before .before .before .before .before .before .before .before .before .before .before .before .before .before .before .before .before .args .sw) _ (c .before .before .present .given .1) (c .before .before .before .before .before .before .before .try-text .ensures .1) in
@@ -150,19 +119,15 @@ returns-4 c = let t = does-not (c .before .before .before .before .before .befor
     (refused-16 (c .before .before .before .before .before .before .before .before .before .before .before .before .before .before .before .before .before .before .args .sw) _ (lentOf (c .before .before .before .before .before .before .before .before .before .before .before .before .before .before .before .before .before .before .args .text .now) (c .before .before .before .before .before .before .before .before .before .before .before .before .before .before .before .before .before .before .args .used) (c .before .before .before .before .before .before .before .before .before .before .before .before .before .before .before .before .before .before .args .journal .now) (c .before .before .before .before .before .before .before .before .before .before .before .before .before .before .before .before .before .before .args .kept)) (c .before .before .before .before .before .before .before .before .before .before .before .before .before .before .before .before .before .before .args .start) (c .before .before .before .before .before .before .before .before .before .before .before .before .before .before .before .before .before .before .args .stop) (c .before .before .before .before .before .before .before .before .before .before .before .before .before .before .before .before .before .before .args .replacement .now) (c .before .before .before .before .before .before .before .before .before .before .before .before .before .before .before .before .before .before .pre .0 .used-fits) (c .before .before .before .before .before .before .before .before .before .before .before .before .before .before .before .before .before .before .pre .1) (omega arith) (omega arith) (t .0))
     (omega arith) (c .refusal4 .ensures) (t .1)
 
--- src/edit.rt:74:1
 same-length-3 : tie.Need-same-length-3
 same-length-3 c = omega arith
 
--- src/edit.rt:74:1
 same-length-4 : tie.Need-same-length-4
 same-length-4 c = omega arith
 
--- src/edit.rt:74:1
 same-length-5 : tie.Need-same-length-5
 same-length-5 c = omega arith
 
--- src/edit.rt:74:1
 returns-5 : tie.Need-returns-5
 unfolding textOf
 returns-5 c = let b : Lent = lentOf (c .before .before .before .before .before .before .before .before .before .before .before .before .before .before .before .before .before .before .before .before .before .before .before .before .before .before .before .before .args .text .now) (c .before .before .before .before .before .before .before .before .before .before .before .before .before .before .before .before .before .before .before .before .before .before .before .before .before .before .before .before .args .used) (c .before .before .before .before .before .before .before .before .before .before .before .before .before .before .before .before .before .before .before .before .before .before .before .before .before .before .before .before .args .journal .now) (c .before .before .before .before .before .before .before .before .before .before .before .before .before .before .before .before .before .before .before .before .before .before .before .before .before .before .before .before .args .kept) in

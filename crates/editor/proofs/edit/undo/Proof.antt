@@ -8,23 +8,18 @@ use Rattle.editor.proofs.edit.undo.Lts as lts
 use Rattle.editor.proofs.edit.undo_edition.Reads as undo-edition-reads
 use Rattle.text.proofs.switches.present.Reads as present-reads
 
--- src/edit.rt:303:18
 present-requires : tie.Need-present-requires
 present-requires c κs = search needs
 
--- src/edit.rt:303:5
 undo-edition-requires : tie.Need-undo-edition-requires
 undo-edition-requires c κs = search needs
 
--- src/edit.rt:300:1
 same-length : tie.Need-same-length
 same-length c = omega arith
 
--- src/edit.rt:300:1
 same-length-2 : tie.Need-same-length-2
 same-length-2 c = omega arith
 
--- src/edit.rt:300:1
 returns : tie.Need-returns
 returns c = rw (c .before .before .before .before .before .before .before .present .ensures) at (c .before .before .before .before .undo-edition .ensures)
 

@@ -13,44 +13,34 @@ use Rattle.editor.proofs.edit.undo_edition.Lts as lts
 use Rattle.editor.proofs.edit.open_text.Reads as open-text-reads
 use Rattle.editor.proofs.edit.undo_read.Reads as undo-read-reads
 
--- src/edit.rt:288:11
 open-text-requires : tie.Need-open-text-requires
 open-text-requires c κs = search needs
 
--- src/edit.rt:289:26
 enum-known-number : tie.Need-enum-known-number
 enum-known-number c = search needs
 
--- src/edit.rt:295:24
 enum-known-nodes : tie.Need-enum-known-nodes
 enum-known-nodes c = search needs
 
--- src/edit.rt:295:34
 undo-read-requires : tie.Need-undo-read-requires
 undo-read-requires c κs = read-at (c .before .before .before .before .before .before .before .before .before .before .before .before .before .args .sw) (length (c .before .before .before .before .before .before .before .before .before .before .before .before .before .args .table .now)) _ _ _ _ (c .before .before .before .before .before .before .before .open-text .kept .1 .1 .1 .1 .1 .0) (opens-taken (c .before .before .before .before .before .before .before .before .before .before .before .before .before .args .sw) _ (c .before .before .before .nodes .given .1) (c .before .before .before .before .before .before .before .open-text .ensures))
 
--- src/edit.rt:285:1
 same-length : tie.Need-same-length
 same-length c = omega arith
 
--- src/edit.rt:285:1
 same-length-2 : tie.Need-same-length-2
 same-length-2 c = omega arith
 
--- src/edit.rt:285:1
 returns : tie.Need-returns
 returns c = undo-stops (c .before .before .before .before .before .before .before .before .before .before .before .args .sw) (length (c .before .before .before .before .before .before .before .before .before .before .before .args .table .now)) (lentOf (c .before .before .before .before .before .before .before .before .before .before .before .args .text .now) (c .before .before .before .before .before .before .before .before .before .before .before .args .used) (c .before .before .before .before .before .before .before .before .before .before .before .args .journal .now) (c .before .before .before .before .before .before .before .before .before .before .before .args .kept)) _ _ _
     (opens-stopped (c .before .before .before .before .before .before .before .before .before .before .before .args .sw) _ (c .before .number .given .1) (c .before .before .before .before .before .open-text .ensures))
 
--- src/edit.rt:285:1
 same-length-3 : tie.Need-same-length-3
 same-length-3 c = omega arith
 
--- src/edit.rt:285:1
 same-length-4 : tie.Need-same-length-4
 same-length-4 c = omega arith
 
--- src/edit.rt:285:1
 returns-2 : tie.Need-returns-2
 unfolding undo
 returns-2 c = let b = lentOf (c .before .before .before .before .before .before .before .before .before .before .before .before .before .before .before .before .before .before .args .text .now) (c .before .before .before .before .before .before .before .before .before .before .before .before .before .before .before .before .before .before .args .used) (c .before .before .before .before .before .before .before .before .before .before .before .before .before .before .before .before .before .before .args .journal .now) (c .before .before .before .before .before .before .before .before .before .before .before .before .before .before .before .before .before .before .args .kept) in

@@ -16,114 +16,88 @@ use Rattle.editor.proofs.buffers.put_text.Reads as put-text-reads
 use Rattle.editor.proofs.edit.refusal.Reads as refusal-reads
 use Rattle.editor.proofs.trial.try_text.Reads as try-text-reads
 
--- src/edit.rt:245:15
 sub-old : tie.Need-sub-old
 sub-old c = omega arith
 
--- src/edit.rt:246:15
 add-new : tie.Need-add-new
 add-new c = omega arith
 
--- src/edit.rt:246:30
 sub-new : tie.Need-sub-new
 sub-new c = omega arith
 
--- src/edit.rt:246:15
 add-new-2 : tie.Need-add-new-2
 add-new-2 c = omega arith
 
--- src/edit.rt:248:9
 refusal-requires : tie.Need-refusal-requires
 refusal-requires c κs = search needs
 
--- src/edit.rt:248:9
 returns : tie.Need-returns
 returns c = let b : Lent = lentOf (c .before .before .before .before .before .args .text .now) (c .before .before .before .before .before .args .used) (c .before .before .before .before .before .args .journal .now) (c .before .before .before .before .before .args .kept) in
     shows-refused (c .before .before .before .before .before .args .sw) _ b _ _ _ _ _ 14
     (refused-14 (c .before .before .before .before .before .args .sw) _ b (c .before .before .before .before .before .pre .0 .used-fits) (c .before .before .before .before .before .pre .0 .kept-fits) (c .before .before .before .before .before .args .start) (c .before .before .before .before .before .args .stop) (c .before .before .before .before .before .args .size) (c .before .before .before .before .before .pre .1) (omega arith))
     (omega arith) (c .refusal .ensures) (c .before .before .before .before .before .pre .0 .table-now)
 
--- src/edit.rt:251:9
 refusal-requires-2 : tie.Need-refusal-requires-2
 refusal-requires-2 c κs = search needs
 
--- src/edit.rt:251:9
 returns-2 : tie.Need-returns-2
 returns-2 c = let b : Lent = lentOf (c .before .before .before .before .before .before .args .text .now) (c .before .before .before .before .before .before .args .used) (c .before .before .before .before .before .before .args .journal .now) (c .before .before .before .before .before .before .args .kept) in
     shows-refused (c .before .before .before .before .before .before .args .sw) _ b _ _ _ _ _ 14
     (refused-14 (c .before .before .before .before .before .before .args .sw) _ b (c .before .before .before .before .before .before .pre .0 .used-fits) (c .before .before .before .before .before .before .pre .0 .kept-fits) (c .before .before .before .before .before .before .args .start) (c .before .before .before .before .before .before .args .stop) (c .before .before .before .before .before .before .args .size) (c .before .before .before .before .before .before .pre .1) (omega arith))
     (omega arith) (c .refusal2 .ensures) (c .before .before .before .before .before .before .pre .0 .table-now)
 
--- src/edit.rt:253:15
 sub-end : tie.Need-sub-end
 sub-end c = omega arith
 
--- src/edit.rt:255:24
 slice-reshare-prefix-try-text : tie.Need-slice-reshare-prefix-try-text
 slice-reshare-prefix-try-text c = omega arith
 
--- src/edit.rt:255:24
 slice-aggregate-try-text : tie.Need-slice-aggregate-try-text
 slice-aggregate-try-text c = sym (length-take-le _ _ (omega arith))
 
--- src/edit.rt:255:66
 sub-try-text : tie.Need-sub-try-text
 sub-try-text c = omega arith
 
--- src/edit.rt:255:52
 sub-try-text-2 : tie.Need-sub-try-text-2
 sub-try-text-2 c = omega arith
 
--- src/edit.rt:255:52
 part-try-text-start : tie.Need-part-try-text-start
 part-try-text-start c = omega arith
 
--- src/edit.rt:255:52
 part-try-text-end : tie.Need-part-try-text-end
 part-try-text-end c = omega arith
 
--- src/edit.rt:255:78
 slice-aggregate-try-text-2 : tie.Need-slice-aggregate-try-text-2
 slice-aggregate-try-text-2 c = omega arith
 
--- src/edit.rt:255:11
 try-text-requires : tie.Need-try-text-requires
 try-text-requires c κs = let l = length-take-le (c .before .before .before .before .before .before .before .before .before .args .used) (c .before .before .before .before .before .before .before .before .before .args .text .now) (c .before .before .before .before .before .before .before .before .before .pre .0 .used-fits) in let z = length-replicate {A = ℕ} 65536 0 in
     let o = length-part (c .before .before .before .before .before .before .before .before .before .args .kept - c .before .before .before .before .before .before .before .before .before .args .size) (c .before .before .before .before .before .before .before .before .before .args .kept - 12) (c .before .before .before .before .before .before .before .before .before .args .journal .now) (omega arith) (omega arith) in (omega arith, omega arith, omega arith)
 
--- src/edit.rt:256:20
 enum-known-present : tie.Need-enum-known-present
 enum-known-present c = search needs
 
--- src/edit.rt:256:32
 refusal-requires-3 : tie.Need-refusal-requires-3
 refusal-requires-3 c κs = search needs
 
--- src/edit.rt:257:22
 enum-known-count : tie.Need-enum-known-count
 enum-known-count c = search needs
 
--- src/edit.rt:258:34
 array-share-prefix-fresh : tie.Need-array-share-prefix-fresh
 array-share-prefix-fresh c = omega arith
 
--- src/edit.rt:258:34
 slice-aggregate-put-text : tie.Need-slice-aggregate-put-text
 slice-aggregate-put-text c = sym (length-take-le _ _ (omega arith))
 
--- src/edit.rt:258:13
 put-text-requires : tie.Need-put-text-requires
 put-text-requires c κs = let l = length-take-le (c .before .before .before .before .before .before .before .before .before .before .before .before .before .before .before .before .before .before .args .start + (c .before .before .before .before .before .before .before .before .before .before .before .before .before .before .before .before .before .before .args .size - 12) + (c .before .before .before .before .before .before .before .before .before .before .before .before .before .before .before .before .before .before .args .used - c .before .before .before .before .before .before .before .before .before .before .before .before .before .before .before .before .before .before .args .stop)) (c .before .before .before .before .before .before .before .before .try-text .last .1 .1 .1 .1 .1 .0) (omega arith) in (omega arith, omega arith)
 
--- src/edit.rt:230:1
 same-length : tie.Need-same-length
 same-length c = omega arith
 
--- src/edit.rt:230:1
 same-length-2 : tie.Need-same-length-2
 same-length-2 c = omega arith
 
--- src/edit.rt:230:1
 returns-3 : tie.Need-returns-3
 unfolding textOf
 returns-3 c = let b : Lent = lentOf (c .before .before .before .before .before .before .before .before .before .before .before .before .before .before .before .before .before .args .text .now) (c .before .before .before .before .before .before .before .before .before .before .before .before .before .before .before .before .before .args .used) (c .before .before .before .before .before .before .before .before .before .before .before .before .before .before .before .before .before .args .journal .now) (c .before .before .before .before .before .before .before .before .before .before .before .before .before .before .before .before .before .args .kept) in
@@ -132,15 +106,12 @@ returns-3 c = let b : Lent = lentOf (c .before .before .before .before .before .
     (refused-16 (c .before .before .before .before .before .before .before .before .before .before .before .before .before .before .before .before .before .args .sw) _ b (c .before .before .before .before .before .before .before .before .before .before .before .before .before .before .before .before .before .pre .0 .used-fits) (c .before .before .before .before .before .before .before .before .before .before .before .before .before .before .before .before .before .pre .0 .kept-fits) (c .before .before .before .before .before .before .before .before .before .before .before .before .before .before .before .before .before .args .start) (c .before .before .before .before .before .before .before .before .before .before .before .before .before .before .before .before .before .args .stop) (c .before .before .before .before .before .before .before .before .before .before .before .before .before .before .before .before .before .args .size) (c .before .before .before .before .before .before .before .before .before .before .before .before .before .before .before .before .before .pre .1) (omega arith) (t .0))
     (omega arith) (c .refusal3 .ensures) (t .1)
 
--- src/edit.rt:230:1
 same-length-3 : tie.Need-same-length-3
 same-length-3 c = omega arith
 
--- src/edit.rt:230:1
 same-length-4 : tie.Need-same-length-4
 same-length-4 c = omega arith
 
--- src/edit.rt:230:1
 returns-4 : tie.Need-returns-4
 unfolding textOf
 returns-4 c = let b : Lent = lentOf (c .before .before .before .before .before .before .before .before .before .before .before .before .before .before .before .before .before .before .before .before .before .args .text .now) (c .before .before .before .before .before .before .before .before .before .before .before .before .before .before .before .before .before .before .before .before .before .args .used) (c .before .before .before .before .before .before .before .before .before .before .before .before .before .before .before .before .before .before .before .before .before .args .journal .now) (c .before .before .before .before .before .before .before .before .before .before .before .before .before .before .before .before .before .before .before .before .before .args .kept) in

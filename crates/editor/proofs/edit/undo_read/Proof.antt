@@ -13,78 +13,61 @@ use Rattle.editor.proofs.edit.refusal.Reads as refusal-reads
 use Rattle.editor.proofs.edit.undo_entry.Reads as undo-entry-reads
 use Rattle.editor.proofs.journal.last_entry.Reads as last-entry-reads
 
--- src/edit.rt:274:22
 slice-aggregate-last-entry : tie.Need-slice-aggregate-last-entry
 slice-aggregate-last-entry c = sym (length-take-le _ _ (omega arith))
 
--- src/edit.rt:274:40
 slice-reshare-prefix-last-entry : tie.Need-slice-reshare-prefix-last-entry
 slice-reshare-prefix-last-entry c = omega arith
 
--- src/edit.rt:274:40
 slice-aggregate-last-entry-2 : tie.Need-slice-aggregate-last-entry-2
 slice-aggregate-last-entry-2 c = sym (length-take-le _ _ (omega arith))
 
--- src/edit.rt:274:11
 last-entry-requires : tie.Need-last-entry-requires
 last-entry-requires c κs = search needs
 
--- src/edit.rt:275:27
 enum-told : tie.Need-enum-told
 enum-told c = search needs
 
--- src/edit.rt:275:27
 refusal-requires : tie.Need-refusal-requires
 refusal-requires c κs = search needs
 
--- src/edit.rt:276:23
 enum-told-2 : tie.Need-enum-told-2
 enum-told-2 c = search needs
 
--- src/edit.rt:276:23
 refusal-requires-2 : tie.Need-refusal-requires-2
 refusal-requires-2 c κs = search needs
 
--- src/edit.rt:277:23
 enum-known-start : tie.Need-enum-known-start
 enum-known-start c = search needs
 
--- src/edit.rt:277:46
 undo-entry-requires : tie.Need-undo-entry-requires
 unfolding textOf journalOf
 undo-entry-requires c κs = (c .before .before .before .before .before .before .before .before .before .before .before .pre, last-is (c .before .before .before .before .before .before .before .before .before .before .before .args .sw) 0 (lentOf (c .before .before .before .before .before .before .before .before .before .before .before .args .text .now) (c .before .before .before .before .before .before .before .before .before .before .before .args .used) (c .before .before .before .before .before .before .before .before .before .before .before .args .journal .now) (c .before .before .before .before .before .before .before .before .before .before .before .args .kept)) (c .before .before .before .before .before .before .before .before .before .before .before .pre .used-fits) (c .before .before .before .before .before .before .before .before .before .before .before .pre .kept-fits) _ _ _ (sym (c .before .before .before .before .before .last-entry .ensures) ∙ c .before .before .before .start .given .1))
 
--- src/edit.rt:270:1
 same-length : tie.Need-same-length
 same-length c = omega arith
 
--- src/edit.rt:270:1
 returns : tie.Need-returns
 unfolding textOf journalOf
 returns c = shows-refused (c .before .before .before .before .before .before .before .before .before .args .sw) _ (lentOf (c .before .before .before .before .before .before .before .before .before .args .text .now) (c .before .before .before .before .before .before .before .before .before .args .used) (c .before .before .before .before .before .before .before .before .before .args .journal .now) (c .before .before .before .before .before .before .before .before .before .args .kept)) _ _ _ _ _ 17
     (refused-17 (c .before .before .before .before .before .before .before .before .before .args .sw) _ (lentOf (c .before .before .before .before .before .before .before .before .before .args .text .now) (c .before .before .before .before .before .before .before .before .before .args .used) (c .before .before .before .before .before .before .before .before .before .args .journal .now) (c .before .before .before .before .before .before .before .before .before .args .kept)) (c .before .before .before .before .before .before .before .before .before .pre .used-fits) (c .before .before .before .before .before .before .before .before .before .pre .kept-fits) (sym (c .before .before .before .last-entry .ensures) ∙ c .before .enum-told .given .1))
     (omega arith) (c .refusal .ensures) (c .before .before .before .before .before .before .before .before .before .pre .table-now)
 
--- src/edit.rt:270:1
 same-length-2 : tie.Need-same-length-2
 same-length-2 c = omega arith
 
--- src/edit.rt:270:1
 returns-2 : tie.Need-returns-2
 unfolding textOf journalOf
 returns-2 c = shows-refused (c .before .before .before .before .before .before .before .before .before .args .sw) _ (lentOf (c .before .before .before .before .before .before .before .before .before .args .text .now) (c .before .before .before .before .before .before .before .before .before .args .used) (c .before .before .before .before .before .before .before .before .before .args .journal .now) (c .before .before .before .before .before .before .before .before .before .args .kept)) _ _ _ _ _ 18
     (refused-18 (c .before .before .before .before .before .before .before .before .before .args .sw) _ (lentOf (c .before .before .before .before .before .before .before .before .before .args .text .now) (c .before .before .before .before .before .before .before .before .before .args .used) (c .before .before .before .before .before .before .before .before .before .args .journal .now) (c .before .before .before .before .before .before .before .before .before .args .kept)) (c .before .before .before .before .before .before .before .before .before .pre .used-fits) (c .before .before .before .before .before .before .before .before .before .pre .kept-fits) (sym (c .before .before .before .last-entry .ensures) ∙ c .before .enum-told2 .given .1))
     (omega arith) (c .refusal2 .ensures) (c .before .before .before .before .before .before .before .before .before .pre .table-now)
 
--- src/edit.rt:270:1
 same-length-3 : tie.Need-same-length-3
 same-length-3 c = omega arith
 
--- src/edit.rt:270:1
 same-length-4 : tie.Need-same-length-4
 same-length-4 c = omega arith
 
--- src/edit.rt:270:1
 returns-3 : tie.Need-returns-3
 unfolding textOf journalOf
 returns-3 c = c .before .before .before .before .undo-entry .ensures

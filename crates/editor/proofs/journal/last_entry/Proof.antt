@@ -9,51 +9,39 @@ use Rattle.editor.proofs.journal.last_entry.Reads as reads
 use Rattle.editor.proofs.journal.last_entry.Lts as lts
 use Rattle.editor.proofs.journal.number_at.Reads as number-at-reads
 
--- src/journal.rt:64:9
 returns : tie.Need-returns
 returns c = last-nothing (c .before .before .before .args .journal .now) (c .before .before .before .args .text .now) (c .if1 .taken)
 
--- src/journal.rt:67:9
 returns-2 : tie.Need-returns-2
 returns-2 c = last-short (c .before .before .before .before .args .journal .now) (c .before .before .before .before .args .text .now) (c .before .if1 .left) (c .if2 .taken)
 
--- src/journal.rt:69:35
 add-number-at : tie.Need-add-number-at
 add-number-at c = omega arith
 
--- src/journal.rt:69:9
 number-at-requires : tie.Need-number-at-requires
 number-at-requires c κs = search needs
 
--- src/journal.rt:71:9
 returns-3 : tie.Need-returns-3
 returns-3 c = last-small (c .before .before .before .before .before .before .args .journal .now) (c .before .before .before .before .before .before .args .text .now) (c .before .before .before .if1 .left) (c .before .before .if2 .left) _ (c .before .number-at .ensures .0) (c .if3 .taken)
 
--- src/journal.rt:74:9
 returns-4 : tie.Need-returns-4
 returns-4 c = last-large (c .before .before .before .before .before .before .before .args .journal .now) (c .before .before .before .before .before .before .before .args .text .now) (c .before .before .before .before .if1 .left) (c .before .before .before .if2 .left) _ (c .before .before .number-at .ensures .0) (c .before .if3 .left) (c .if4 .taken)
 
--- src/journal.rt:76:9
 number-at-requires-2 : tie.Need-number-at-requires-2
 number-at-requires-2 c κs = search needs
 
--- src/journal.rt:77:43
 add-number-at-2 : tie.Need-add-number-at-2
 add-number-at-2 c = omega arith
 
--- src/journal.rt:77:24
 number-at-requires-3 : tie.Need-number-at-requires-3
 number-at-requires-3 c κs = search needs
 
--- src/journal.rt:77:16
 add-stop : tie.Need-add-stop
 add-stop c = omega arith
 
--- src/journal.rt:79:9
 returns-5 : tie.Need-returns-5
 returns-5 c = last-past (c .before .before .before .before .before .before .before .before .before .before .args .journal .now) (c .before .before .before .before .before .before .before .before .before .before .args .text .now) (c .before .before .before .before .before .before .before .if1 .left) (c .before .before .before .before .before .before .if2 .left) _ (c .before .before .before .before .before .number-at .ensures .0) (c .before .before .before .before .if3 .left) (c .before .before .before .if4 .left) _ _ (c .before .before .number-at2 .ensures .0) (c .before .number-at3 .ensures .0) (c .if5 .taken)
 
--- src/journal.rt:59:1
 returns-6 : tie.Need-returns-6
 returns-6 c = last-good (c .before .before .before .before .before .before .before .before .before .before .args .journal .now) (c .before .before .before .before .before .before .before .before .before .before .args .text .now) (c .before .before .before .before .before .before .before .if1 .left) (c .before .before .before .before .before .before .if2 .left) _ (c .before .before .before .before .before .number-at .ensures .0) (c .before .before .before .before .if3 .left) (c .before .before .before .if4 .left) _ _ (c .before .before .number-at2 .ensures .0) (c .before .number-at3 .ensures .0) (c .if5 .left)
 

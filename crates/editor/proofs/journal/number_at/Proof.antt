@@ -9,75 +9,57 @@ use Rattle.editor.proofs.journal.number_at.Reads as reads
 use Rattle.editor.proofs.journal.number_at.Lts as lts
 use Rattle.editor.proofs.journal.wide.Reads as wide-reads
 
--- src/journal.rt:31:10
 shared-slice-read-wide : tie.Need-shared-slice-read-wide
 shared-slice-read-wide c = search needs
 
--- src/journal.rt:31:5
 wide-requires : tie.Need-wide-requires
 wide-requires c κs = search needs
 
--- src/journal.rt:31:26
 add-wide : tie.Need-add-wide
 add-wide c = omega arith
 
--- src/journal.rt:31:24
 shared-slice-read-wide-2 : tie.Need-shared-slice-read-wide-2
 shared-slice-read-wide-2 c = search needs
 
--- src/journal.rt:31:19
 wide-requires-2 : tie.Need-wide-requires-2
 wide-requires-2 c κs = search needs
 
--- src/journal.rt:31:19
 mul-result : tie.Need-mul-result
 mul-result c = omega arith
 
--- src/journal.rt:31:5
 add-result : tie.Need-add-result
 add-result c = omega arith
 
--- src/journal.rt:31:50
 add-wide-2 : tie.Need-add-wide-2
 add-wide-2 c = omega arith
 
--- src/journal.rt:31:48
 shared-slice-read-wide-3 : tie.Need-shared-slice-read-wide-3
 shared-slice-read-wide-3 c = search needs
 
--- src/journal.rt:31:43
 wide-requires-3 : tie.Need-wide-requires-3
 wide-requires-3 c κs = search needs
 
--- src/journal.rt:31:43
 mul-result-2 : tie.Need-mul-result-2
 mul-result-2 c = omega arith
 
--- src/journal.rt:31:5
 add-result-2 : tie.Need-add-result-2
 add-result-2 c = omega arith
 
--- src/journal.rt:31:76
 add-wide-3 : tie.Need-add-wide-3
 add-wide-3 c = omega arith
 
--- src/journal.rt:31:74
 shared-slice-read-wide-4 : tie.Need-shared-slice-read-wide-4
 shared-slice-read-wide-4 c = search needs
 
--- src/journal.rt:31:69
 wide-requires-4 : tie.Need-wide-requires-4
 wide-requires-4 c κs = search needs
 
--- src/journal.rt:31:69
 mul-result-3 : tie.Need-mul-result-3
 mul-result-3 c = omega arith
 
--- src/journal.rt:31:5
 add-result-3 : tie.Need-add-result-3
 add-result-3 c = omega arith
 
--- src/journal.rt:27:1
 returns : tie.Need-returns
 returns c = (
   (λ i. c .before .before .before .before .before .before .wide .ensures .0 i + c .before .before .before .before .wide2 .ensures .0 i * 256 + c .before .before .wide3 .ensures .0 i * 65536 + c .wide4 .ensures .0 i * 16777216) ∙ number-read (c .before .before .before .before .before .before .before .before .before .args .s .now) (c .before .before .before .before .before .before .before .before .before .args .at),

@@ -12,43 +12,33 @@ use Rattle.editor.proofs.journal.put_entry.Lts as lts
 use Rattle.editor.proofs.buffers.put_at.Reads as put-at-reads
 use Rattle.editor.proofs.journal.put_number.Reads as put-number-reads
 
--- src/journal.rt:39:5
 put-at-requires : tie.Need-put-at-requires
 put-at-requires c κs = search needs
 
--- src/journal.rt:40:14
 add-at : tie.Need-add-at
 add-at c = omega arith
 
--- src/journal.rt:41:5
 put-number-requires : tie.Need-put-number-requires
 put-number-requires c κs = search needs
 
--- src/journal.rt:42:25
 add-put-number : tie.Need-add-put-number
 add-put-number c = omega arith
 
--- src/journal.rt:42:5
 put-number-requires-2 : tie.Need-put-number-requires-2
 put-number-requires-2 c κs = search needs
 
--- src/journal.rt:43:25
 add-put-number-2 : tie.Need-add-put-number-2
 add-put-number-2 c = omega arith
 
--- src/journal.rt:43:33
 add-put-number-3 : tie.Need-add-put-number-3
 add-put-number-3 c = omega arith
 
--- src/journal.rt:43:5
 put-number-requires-3 : tie.Need-put-number-requires-3
 put-number-requires-3 c κs = search needs
 
--- src/journal.rt:35:1
 same-length : tie.Need-same-length
 same-length c = omega arith
 
--- src/journal.rt:35:1
 returns : tie.Need-returns
 returns c = c .before .before .put-number3 .ensures
     ∙ ap (overwritten (c .before .before .before .before .before .before .before .before .before .before .before .before .before .before .before .before .before .before .args .kept + length (c .before .before .before .before .before .before .before .before .before .before .before .before .before .before .before .before .before .before .args .old .now) + 8) (le32 (length (c .before .before .before .before .before .before .before .before .before .before .before .before .before .before .before .before .before .before .args .old .now) + 12)))

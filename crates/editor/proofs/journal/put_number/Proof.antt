@@ -7,55 +7,42 @@ use Rattle.editor.proofs.journal.put_number.Tie as tie
 use Rattle.editor.proofs.journal.put_number.Reads as reads
 use Rattle.editor.proofs.journal.put_number.Lts as lts
 
--- src/journal.rt:20:15
 cast-dst : tie.Need-cast-dst
 cast-dst c = omega arith
 
--- src/journal.rt:20:5
 slice-write-dst : tie.Need-slice-write-dst
 slice-write-dst c = omega arith
 
--- src/journal.rt:21:19
 cast-dst-2 : tie.Need-cast-dst-2
 cast-dst-2 c = omega arith
 
--- src/journal.rt:21:9
 add-dst : tie.Need-add-dst
 add-dst c = omega arith
 
--- src/journal.rt:21:5
 slice-write-dst-2 : tie.Need-slice-write-dst-2
 slice-write-dst-2 c = simp length-set (omega arith)
 
--- src/journal.rt:22:19
 cast-dst-3 : tie.Need-cast-dst-3
 cast-dst-3 c = omega arith
 
--- src/journal.rt:22:9
 add-dst-2 : tie.Need-add-dst-2
 add-dst-2 c = omega arith
 
--- src/journal.rt:22:5
 slice-write-dst-3 : tie.Need-slice-write-dst-3
 slice-write-dst-3 c = simp length-set (omega arith)
 
--- src/journal.rt:23:19
 cast-dst-4 : tie.Need-cast-dst-4
 cast-dst-4 c = omega arith
 
--- src/journal.rt:23:9
 add-dst-3 : tie.Need-add-dst-3
 add-dst-3 c = omega arith
 
--- src/journal.rt:23:5
 slice-write-dst-4 : tie.Need-slice-write-dst-4
 slice-write-dst-4 c = simp length-set (omega arith)
 
--- src/journal.rt:16:1
 same-length : tie.Need-same-length
 same-length c = simp length-set
 
--- src/journal.rt:16:1
 returns : tie.Need-returns
 returns c = number-put (c .args .dst .now) (c .args .at) (c .args .n) (omega arith)
 

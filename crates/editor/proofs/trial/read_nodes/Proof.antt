@@ -8,31 +8,24 @@ use Rattle.editor.proofs.trial.read_nodes.Reads as reads
 use Rattle.editor.proofs.trial.read_nodes.Lts as lts
 use Rattle.reader.proofs.read.read_edition.Reads as read-edition-reads
 
--- src/trial.rt:23:11
 read-edition-requires : tie.Need-read-edition-requires
 read-edition-requires c κs = search needs
 
--- src/trial.rt:24:24
 enum-known-nodes : tie.Need-enum-known-nodes
 enum-known-nodes c = search needs
 
--- src/trial.rt:25:35
 enum-told : tie.Need-enum-told
 enum-told c = search needs
 
--- src/trial.rt:20:1
 same-length : tie.Need-same-length
 same-length c = omega arith
 
--- src/trial.rt:20:1
 returns : tie.Need-returns
 returns c = (taken-nodes _ _ (sym (c .before .before .before .before .before .read-edition .ensures .0) ∙ c .before .nodes .given .1), c .before .before .before .before .before .read-edition .ensures .1)
 
--- src/trial.rt:20:1
 same-length-2 : tie.Need-same-length-2
 same-length-2 c = omega arith
 
--- src/trial.rt:20:1
 returns-2 : tie.Need-returns-2
 returns-2 c = (refused-nodes _ _ _ (sym (c .before .before .before .before .read-edition .ensures .0) ∙ c .enum-told .given .1), c .before .before .before .before .read-edition .ensures .1)
 

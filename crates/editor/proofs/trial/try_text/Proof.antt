@@ -15,55 +15,42 @@ use Rattle.editor.proofs.buffers.put_splice.Reads as put-splice-reads
 use Rattle.editor.proofs.trial.read_nodes.Reads as read-nodes-reads
 use Rattle.reader.proofs.read.read_edition.Reads as read-edition-reads
 
--- src/trial.rt:43:5
 put-splice-requires : tie.Need-put-splice-requires
 put-splice-requires c κs = search needs
 
--- src/trial.rt:44:13
 add-n : tie.Need-add-n
 add-n c = omega arith
 
--- src/trial.rt:44:42
 sub-n : tie.Need-sub-n
 sub-n c = omega arith
 
--- src/trial.rt:44:13
 add-n-2 : tie.Need-add-n-2
 add-n-2 c = omega arith
 
--- src/trial.rt:45:28
 slice-reshare-prefix-read-edition : tie.Need-slice-reshare-prefix-read-edition
 slice-reshare-prefix-read-edition c = omega arith
 
--- src/trial.rt:45:28
 slice-aggregate-read-edition : tie.Need-slice-aggregate-read-edition
 slice-aggregate-read-edition c = sym (length-take-le _ _ (omega arith))
 
--- src/trial.rt:45:11
 read-edition-requires : tie.Need-read-edition-requires
 read-edition-requires c κs = search needs
 
--- src/trial.rt:46:24
 enum-known-nodes : tie.Need-enum-known-nodes
 enum-known-nodes c = search needs
 
--- src/trial.rt:47:67
 enum-told : tie.Need-enum-told
 enum-told c = search needs
 
--- src/trial.rt:47:46
 read-nodes-requires : tie.Need-read-nodes-requires
 read-nodes-requires c κs = search needs
 
--- src/trial.rt:31:1
 same-length : tie.Need-same-length
 same-length c = omega arith
 
--- src/trial.rt:31:1
 same-length-2 : tie.Need-same-length-2
 same-length-2 c = omega arith
 
--- src/trial.rt:31:1
 returns : tie.Need-returns
 returns c = (
   c .before .before .before .before .before .before .before .before .before .before .put-splice .ensures,
@@ -73,15 +60,12 @@ returns c = (
       _ (sym (c .before .before .before .before .before .read-edition .ensures .0) ∙ c .before .nodes .given .1) (c .before .before .before .before .before .read-edition .ensures .1)),
 )
 
--- src/trial.rt:31:1
 same-length-3 : tie.Need-same-length-3
 same-length-3 c = omega arith
 
--- src/trial.rt:31:1
 same-length-4 : tie.Need-same-length-4
 same-length-4 c = omega arith
 
--- src/trial.rt:31:1
 returns-2 : tie.Need-returns-2
 returns-2 c = (
   c .before .before .before .before .before .before .before .before .before .before .before .before .before .put-splice .ensures,

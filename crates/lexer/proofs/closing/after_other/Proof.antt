@@ -9,42 +9,33 @@ use Rattle.lexer.proofs.closing.after_other.Reads as reads
 use Rattle.lexer.proofs.closing.after_other.Lts as lts
 use Rattle.lexer.proofs.closing.after_quote.Reads as after-quote-reads
 
--- src/closing.rt:43:43
 add-after-quote : tie.Need-add-after-quote
 add-after-quote c = omega arith
 
--- src/closing.rt:43:9
 after-quote-requires : tie.Need-after-quote-requires
 after-quote-requires c κs = search needs
 
--- src/closing.rt:43:9
 returns : tie.Need-returns
 unfolding afterOther
 returns c = rw (eq-eqb _ _ (c .before .if1 .taken), ← add-one) (c .after-quote .ensures)
 
--- src/closing.rt:46:32
 add-t7 : tie.Need-add-t7
 add-t7 c = omega arith
 
--- src/closing.rt:46:9
 returns-2 : tie.Need-returns-2
 unfolding afterOther
 returns-2 c = rw (ne-eqb _ _ (c .before .if1 .left), add-one, ne-eqb _ _ (c .if2 .taken))
 
--- src/closing.rt:49:33
 add-t8 : tie.Need-add-t8
 add-t8 c = omega arith
 
--- src/closing.rt:49:9
 returns-3 : tie.Need-returns-3
 unfolding afterOther
 returns-3 c = rw (ne-eqb _ _ (c .before .before .if1 .left), add-one, eq-eqb _ _ (c .before .if2 .left), c .if3 .taken)
 
--- src/closing.rt:51:21
 add-t9 : tie.Need-add-t9
 add-t9 c = omega arith
 
--- src/closing.rt:38:1
 returns-4 : tie.Need-returns-4
 unfolding afterOther
 returns-4 c = rw (ne-eqb _ _ (c .before .before .if1 .left), add-one, eq-eqb _ _ (c .before .if2 .left), c .if3 .left)

@@ -7,12 +7,10 @@ use Rattle.lexer.proofs.closing.after_quote.Tie as tie
 use Rattle.lexer.proofs.closing.after_quote.Reads as reads
 use Rattle.lexer.proofs.closing.after_quote.Lts as lts
 
--- src/closing.rt:32:9
 returns : tie.Need-returns
 unfolding afterQuote
 returns c = rw (eq-eqb _ _ (c .if1 .taken))
 
--- src/closing.rt:28:1
 returns-2 : tie.Need-returns-2
 unfolding afterQuote
 returns-2 c = rw (ne-eqb _ _ (c .if1 .left))

@@ -9,69 +9,55 @@ use Rattle.lexer.proofs.closing.block_step.Tie as tie
 use Rattle.lexer.proofs.closing.block_step.Reads as reads
 use Rattle.lexer.proofs.closing.block_step.Lts as lts
 
--- src/closing.rt:130:23
 enum-known-c : tie.Need-enum-known-c
 enum-known-c c = search needs
 
--- src/closing.rt:132:39
 add-t8 : tie.Need-add-t8
 unfolding blockStep blockRead
 add-t8 c = let h = rw (c .before .before .c .given .1) at (c .before .before .before .before .pre) in omega arith
 
--- src/closing.rt:132:17
 returns : tie.Need-returns
 unfolding blockStep blockRead
 returns c = rw (c .before .before .c .given .1, eq-eqb _ _ (c .if1 .taken), add-one)
 
--- src/closing.rt:134:27
 add-t9 : tie.Need-add-t9
 unfolding blockStep blockRead
 add-t9 c = let h = rw (c .before .before .c .given .1) at (c .before .before .before .before .pre) in omega arith
 
--- src/closing.rt:136:24
 enum-known-c-2 : tie.Need-enum-known-c-2
 enum-known-c-2 c = search needs
 
--- src/closing.rt:138:38
 add-t11 : tie.Need-add-t11
 unfolding blockStep blockRead
 add-t11 c = let h = rw (c .before .before .c2 .given .1) at (c .before .before .before .before .pre) in omega arith
 
--- src/closing.rt:138:17
 returns-2 : tie.Need-returns-2
 unfolding blockStep blockRead
 returns-2 c = rw (c .before .before .c2 .given .1, eq-eqb _ _ (c .if2 .taken), add-one)
 
--- src/closing.rt:141:39
 add-t12 : tie.Need-add-t12
 unfolding blockStep blockRead
 add-t12 c = let h = rw (c .before .before .before .c2 .given .1) at (c .before .before .before .before .before .pre) in omega arith
 
--- src/closing.rt:141:17
 returns-3 : tie.Need-returns-3
 unfolding blockStep blockRead
 returns-3 c = rw (c .before .before .before .c2 .given .1, ne-eqb _ _ (c .before .if2 .left), eq-eqb _ _ (c .if3 .taken), add-one)
 
--- src/closing.rt:143:27
 add-t13 : tie.Need-add-t13
 unfolding blockStep blockRead
 add-t13 c = let h = rw (c .before .before .before .c2 .given .1) at (c .before .before .before .before .before .pre) in omega arith
 
--- src/closing.rt:145:23
 enum-known-c-3 : tie.Need-enum-known-c-3
 enum-known-c-3 c = search needs
 
--- src/closing.rt:125:1
 returns-4 : tie.Need-returns-4
 unfolding blockStep blockRead
 returns-4 c = rw (c .before .before .c .given .1, ne-eqb _ _ (c .if1 .left), add-one)
 
--- src/closing.rt:125:1
 returns-5 : tie.Need-returns-5
 unfolding blockStep blockRead
 returns-5 c = rw (c .before .before .before .c2 .given .1, ne-eqb _ _ (c .before .if2 .left), ne-eqb _ _ (c .if3 .left), add-one)
 
--- src/closing.rt:125:1
 returns-6 : tie.Need-returns-6
 unfolding blockStep blockRead
 returns-6 c = rw (c .before .c3 .given .1)

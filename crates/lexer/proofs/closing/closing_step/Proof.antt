@@ -12,72 +12,57 @@ use Rattle.lexer.proofs.closing.closing_step.Lts as lts
 use Rattle.lexer.proofs.closing.after_other.Reads as after-other-reads
 use Rattle.lexer.proofs.closing.after_quote.Reads as after-quote-reads
 
--- src/closing.rt:59:25
 enum-known-c : tie.Need-enum-known-c
 enum-known-c c = search needs
 
--- src/closing.rt:59:31
 after-other-requires : tie.Need-after-other-requires
 unfolding closingStep closingRead
 after-other-requires c κs = rw (c .before .c .given .1) at (c .before .before .before .pre)
 
--- src/closing.rt:60:26
 enum-known-c-2 : tie.Need-enum-known-c-2
 enum-known-c-2 c = search needs
 
--- src/closing.rt:60:48
 add-t11 : tie.Need-add-t11
 unfolding closingStep closingRead
 add-t11 c = let h = rw (c .before .c2 .given .1) at (c .before .before .before .pre) in omega arith
 
--- src/closing.rt:61:25
 enum-known-c-3 : tie.Need-enum-known-c-3
 enum-known-c-3 c = search needs
 
--- src/closing.rt:63:48
 add-after-quote : tie.Need-add-after-quote
 unfolding closingStep closingRead
 add-after-quote c = let h = rw (c .before .before .c3 .given .1) at (c .before .before .before .before .pre) in omega arith
 
--- src/closing.rt:63:55
 add-after-quote-2 : tie.Need-add-after-quote-2
 unfolding closingStep closingRead
 add-after-quote-2 c = let h = rw (c .before .before .c3 .given .1) at (c .before .before .before .before .pre) in omega arith
 
--- src/closing.rt:63:17
 after-quote-requires : tie.Need-after-quote-requires
 after-quote-requires c κs = search needs
 
--- src/closing.rt:63:17
 returns : tie.Need-returns
 unfolding closingStep closingRead
 returns c = rw (c .before .before .before .c3 .given .1, eq-eqb _ _ (c .before .if1 .taken)) (rw (add-one, add-one) at (c .after-quote .ensures))
 
--- src/closing.rt:65:13
 after-other-requires-2 : tie.Need-after-other-requires-2
 unfolding closingStep closingRead
 after-other-requires-2 c κs = let h = rw (c .before .before .c3 .given .1) at (c .before .before .before .before .pre) in omega arith
 
--- src/closing.rt:67:25
 enum-known-c-4 : tie.Need-enum-known-c-4
 enum-known-c-4 c = search needs
 
--- src/closing.rt:54:1
 returns-2 : tie.Need-returns-2
 unfolding closingStep closingRead
 returns-2 c = rw (c .before .before .c .given .1) (c .after-other .ensures)
 
--- src/closing.rt:54:1
 returns-3 : tie.Need-returns-3
 unfolding closingStep closingRead
 returns-3 c = rw (c .before .c2 .given .1, add-one)
 
--- src/closing.rt:54:1
 returns-4 : tie.Need-returns-4
 unfolding closingStep closingRead
 returns-4 c = rw (c .before .before .before .c3 .given .1, ne-eqb _ _ (c .before .if1 .left)) (c .after-other2 .ensures)
 
--- src/closing.rt:54:1
 returns-5 : tie.Need-returns-5
 unfolding closingStep closingRead
 returns-5 c = rw (c .before .c4 .given .1)

@@ -21,40 +21,31 @@ Inv-loop text from c₀ i₀ c i = (from ≤ i) × (blockRead c + from ≤ i) ×
 abbrev μ-loop : tie.MeasureT-loop
 μ-loop text from c₀ i₀ c i = length text - i
 
--- src/closing.rt:165:5
 loop-holds : tie.Need-loop-holds Inv-loop μ-loop
 unfolding block blockRead
 loop-holds c = (omega arith, omega arith, refl)
 
--- src/closing.rt:166:27
 shared-slice-read-block-step : tie.Need-shared-slice-read-block-step Inv-loop μ-loop
 shared-slice-read-block-step c = search needs
 
--- src/closing.rt:166:9
 block-step-requires : tie.Need-block-step-requires Inv-loop μ-loop
 block-step-requires c κs = omega arith
 
--- src/closing.rt:167:12
 is-shut-requires : tie.Need-is-shut-requires Inv-loop μ-loop
 is-shut-requires c κs = search needs
 
--- src/closing.rt:168:13
 returns : tie.Need-returns Inv-loop μ-loop
 returns c = sym (c .before .before .before .before .before .loop .inv .2 ∙ feed-turn blockStep (c .before .before .before .before .before .loop .c) _ (c .before .before .before .before .before .before .before .args .text .now) (c .before .before .before .before .before .loop .i) (omega arith) (c .before .before .block-step .ensures) ∙ shut-stays (c .before .before .block-step .result) (sym (c .before .is-shut .ensures) ∙ c .if1 .taken) _)
 
--- src/closing.rt:170:9
 add-i : tie.Need-add-i Inv-loop μ-loop
 add-i c = omega arith
 
--- src/closing.rt:165:5
 loop-less : tie.Need-loop-less Inv-loop μ-loop
 loop-less c = omega arith
 
--- src/closing.rt:165:5
 loop-again : tie.Need-loop-again Inv-loop μ-loop
 loop-again c = (omega arith, block-turn (c .before .before .before .before .before .loop .c) _ _ (c .before .before .before .before .before .before .before .args .from) (c .before .before .before .before .before .loop .i) (c .before .before .block-step .ensures) (c .before .before .before .before .before .loop .inv .1), c .before .before .before .before .before .loop .inv .2 ∙ feed-turn blockStep (c .before .before .before .before .before .loop .c) _ (c .before .before .before .before .before .before .before .args .text .now) (c .before .before .before .before .before .loop .i) (omega arith) (c .before .before .block-step .ensures))
 
--- src/closing.rt:160:1
 returns-2 : tie.Need-returns-2 Inv-loop μ-loop
 returns-2 c = sym (c .before .loop .inv .2 ∙ feed-done blockStep (c .before .loop .c) (c .before .before .before .args .text .now) (c .before .loop .i) (omega arith))
 

@@ -23,73 +23,56 @@ Inv-loop text from escapes k start c₀ i₀ c i = (from ≤ i) × (closingRead 
 abbrev μ-loop : tie.MeasureT-loop
 μ-loop text from escapes k start c₀ i₀ c i = length text - i
 
--- src/closing.rt:104:9
 plain-end-requires : tie.Need-plain-end-requires Inv-loop μ-loop
 plain-end-requires c κs = search needs
 
--- src/closing.rt:105:33
 sub-t10 : tie.Need-sub-t10 Inv-loop μ-loop
 sub-t10 c = omega arith
 
--- src/closing.rt:107:5
 loop-holds : tie.Need-loop-holds Inv-loop μ-loop
 unfolding closingRead
 loop-holds c = (omega arith, omega arith, plain-start (c .before .before .args .escapes) (c .before .before .args .k) (c .before .before .args .text .now) (c .before .before .args .from) _ (c .plain-end .ensures))
 
--- src/closing.rt:108:41
 shared-slice-read-closing-step : tie.Need-shared-slice-read-closing-step Inv-loop μ-loop
 shared-slice-read-closing-step c = search needs
 
--- src/closing.rt:108:9
 closing-step-requires : tie.Need-closing-step-requires Inv-loop μ-loop
 closing-step-requires c κs = omega arith
 
--- src/closing.rt:109:12
 is-closed-requires : tie.Need-is-closed-requires Inv-loop μ-loop
 is-closed-requires c κs = search needs
 
--- src/closing.rt:110:13
 returns : tie.Need-returns Inv-loop μ-loop
 returns c = sym (c .before .before .before .before .before .loop .inv .2 ∙ feed-turn (closingStep (c .before .before .before .before .before .before .before .before .args .escapes) (c .before .before .before .before .before .before .before .before .args .k)) (c .before .before .before .before .before .loop .c) _ (c .before .before .before .before .before .before .before .before .args .text .now) (c .before .before .before .before .before .loop .i) (omega arith) (c .before .before .closing-step .ensures) ∙ closed-stays (c .before .before .before .before .before .before .before .before .args .escapes) (c .before .before .before .before .before .before .before .before .args .k) (c .before .before .closing-step .result) (sym (c .before .is-closed .ensures) ∙ c .if1 .taken) _)
 
--- src/closing.rt:112:9
 add-i : tie.Need-add-i Inv-loop μ-loop
 add-i c = omega arith
 
--- src/closing.rt:114:29
 enum-known-c : tie.Need-enum-known-c Inv-loop μ-loop
 enum-known-c c = search needs
 
--- src/closing.rt:115:21
 plain-end-requires-2 : tie.Need-plain-end-requires-2 Inv-loop μ-loop
 plain-end-requires-2 c κs = search needs
 
--- src/closing.rt:116:42
 sub-t16 : tie.Need-sub-t16 Inv-loop μ-loop
 sub-t16 c = omega arith
 
--- src/closing.rt:116:37
 add-t17 : tie.Need-add-t17 Inv-loop μ-loop
 add-t17 c = let n = plain-counts (c .before .before .before .before .before .before .before .before .before .before .before .before .args .escapes) (c .before .before .before .before .before .before .before .before .before .before .before .before .args .k) (c .before .before .before .before .before .before .before .before .before .loop .c) (c .before .before .before .before .before .before .closing-step .result) _ (c .before .before .c .given .0 .0) (c .before .before .before .before .before .before .before .before .before .before .before .before .args .from) (c .before .before .before .before .before .before .before .before .before .loop .i) (c .before .before .before .before .before .before .closing-step .ensures) (c .before .before .before .before .before .before .before .before .before .loop .inv .1) (c .before .before .c .given .1) in let w = run-within plain (c .before .before .before .before .before .before .before .before .before .before .before .before .args .text .now) (c .before .before .before .before .before .before .before .before .before .loop .i + 1) (omega arith) in omega arith
 
--- src/closing.rt:107:5
 loop-less : tie.Need-loop-less Inv-loop μ-loop
 loop-less c = omega arith
 
--- src/closing.rt:107:5
 loop-again : tie.Need-loop-again Inv-loop μ-loop
 unfolding closingRead
 loop-again c = let n = plain-counts (c .before .before .before .before .before .before .before .before .before .before .before .before .args .escapes) (c .before .before .before .before .before .before .before .before .before .before .before .before .args .k) (c .before .before .before .before .before .before .before .before .before .loop .c) (c .before .before .before .before .before .before .closing-step .result) _ (c .before .before .c .given .0 .0) (c .before .before .before .before .before .before .before .before .before .before .before .before .args .from) (c .before .before .before .before .before .before .before .before .before .loop .i) (c .before .before .before .before .before .before .closing-step .ensures) (c .before .before .before .before .before .before .before .before .before .loop .inv .1) (c .before .before .c .given .1) in (omega arith, omega arith, c .before .before .before .before .before .before .before .before .before .loop .inv .2 ∙ feed-turn (closingStep (c .before .before .before .before .before .before .before .before .before .before .before .before .args .escapes) (c .before .before .before .before .before .before .before .before .before .before .before .before .args .k)) (c .before .before .before .before .before .before .before .before .before .loop .c) (c .before .before .before .before .before .before .closing-step .result) (c .before .before .before .before .before .before .before .before .before .before .before .before .args .text .now) (c .before .before .before .before .before .before .before .before .before .loop .i) (omega arith) (c .before .before .before .before .before .before .closing-step .ensures) ∙ plain-turn (c .before .before .before .before .before .before .before .before .before .before .before .before .args .escapes) (c .before .before .before .before .before .before .before .before .before .before .before .before .args .k) (c .before .before .before .before .before .before .before .before .before .before .before .before .args .text .now) (c .before .before .before .before .before .before .closing-step .result) (c .before .before .c .given .0 .0) (c .before .before .before .before .before .before .before .before .before .loop .i + 1) (c .plain-end2 .result) (c .before .before .c .given .1) (c .plain-end2 .ensures))
 
--- src/closing.rt:107:5
 loop-less-2 : tie.Need-loop-less-2 Inv-loop μ-loop
 loop-less-2 c = omega arith
 
--- src/closing.rt:107:5
 loop-again-2 : tie.Need-loop-again-2 Inv-loop μ-loop
 loop-again-2 c = (omega arith, closing-turn (c .before .before .before .before .before .before .before .before .before .args .escapes) (c .before .before .before .before .before .before .before .before .before .args .k) (c .before .before .before .before .before .before .loop .c) _ _ (c .before .before .before .before .before .before .before .before .before .args .from) (c .before .before .before .before .before .before .loop .i) (c .before .before .before .closing-step .ensures) (c .before .before .before .before .before .before .loop .inv .1), c .before .before .before .before .before .before .loop .inv .2 ∙ feed-turn (closingStep (c .before .before .before .before .before .before .before .before .before .args .escapes) (c .before .before .before .before .before .before .before .before .before .args .k)) (c .before .before .before .before .before .before .loop .c) _ (c .before .before .before .before .before .before .before .before .before .args .text .now) (c .before .before .before .before .before .before .loop .i) (omega arith) (c .before .before .before .closing-step .ensures))
 
--- src/closing.rt:101:1
 returns-2 : tie.Need-returns-2 Inv-loop μ-loop
 returns-2 c = sym (c .before .loop .inv .2 ∙ feed-done (closingStep (c .before .before .before .before .args .escapes) (c .before .before .before .before .args .k)) (c .before .loop .c) (c .before .before .before .before .args .text .now) (c .before .loop .i) (omega arith))
 

@@ -7,38 +7,30 @@ use Rattle.lexer.proofs.closing.is_closed.Tie as tie
 use Rattle.lexer.proofs.closing.is_closed.Reads as reads
 use Rattle.lexer.proofs.closing.is_closed.Lts as lts
 
--- src/closing.rt:75:31
 enum-told : tie.Need-enum-told
 enum-told c = search needs
 
--- src/closing.rt:76:32
 enum-told-2 : tie.Need-enum-told-2
 enum-told-2 c = search needs
 
--- src/closing.rt:77:34
 enum-told-3 : tie.Need-enum-told-3
 enum-told-3 c = search needs
 
--- src/closing.rt:78:31
 enum-told-4 : tie.Need-enum-told-4
 enum-told-4 c = search needs
 
--- src/closing.rt:71:1
 returns : tie.Need-returns
 unfolding isClosed
 returns c = sym (ap isClosed (c .enum-told .given .1))
 
--- src/closing.rt:71:1
 returns-2 : tie.Need-returns-2
 unfolding isClosed
 returns-2 c = sym (ap isClosed (c .enum-told2 .given .1))
 
--- src/closing.rt:71:1
 returns-3 : tie.Need-returns-3
 unfolding isClosed
 returns-3 c = sym (ap isClosed (c .enum-told3 .given .1))
 
--- src/closing.rt:71:1
 returns-4 : tie.Need-returns-4
 unfolding isClosed
 returns-4 c = sym (ap isClosed (c .enum-told4 .given .1))

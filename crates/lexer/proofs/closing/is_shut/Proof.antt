@@ -7,29 +7,23 @@ use Rattle.lexer.proofs.closing.is_shut.Tie as tie
 use Rattle.lexer.proofs.closing.is_shut.Reads as reads
 use Rattle.lexer.proofs.closing.is_shut.Lts as lts
 
--- src/closing.rt:153:29
 enum-told : tie.Need-enum-told
 enum-told c = search needs
 
--- src/closing.rt:154:30
 enum-told-2 : tie.Need-enum-told-2
 enum-told-2 c = search needs
 
--- src/closing.rt:155:29
 enum-told-3 : tie.Need-enum-told-3
 enum-told-3 c = search needs
 
--- src/closing.rt:149:1
 returns : tie.Need-returns
 unfolding isShut
 returns c = sym (ap isShut (c .enum-told .given .1))
 
--- src/closing.rt:149:1
 returns-2 : tie.Need-returns-2
 unfolding isShut
 returns-2 c = sym (ap isShut (c .enum-told2 .given .1))
 
--- src/closing.rt:149:1
 returns-3 : tie.Need-returns-3
 unfolding isShut
 returns-3 c = sym (ap isShut (c .enum-told3 .given .1))

@@ -17,71 +17,54 @@ use Rattle.lexer.proofs.item.raw_item.Reads as raw-item-reads
 use Rattle.lexer.proofs.item.string_item.Reads as string-item-reads
 use Rattle.lexer.proofs.item.word_item.Reads as word-item-reads
 
--- src/item.rt:252:27
 add-byte-at : tie.Need-add-byte-at
 add-byte-at c = omega arith
 
--- src/item.rt:252:9
 byte-at-requires : tie.Need-byte-at-requires
 byte-at-requires c κs = search needs
 
--- src/item.rt:254:9
 string-item-requires : tie.Need-string-item-requires
 string-item-requires c κs = let h = there (c .before .before .before .args .text .now) (c .before .before .before .args .at + 1) 34 (sym (c .before .byte-at .ensures) ∙ c .if1 .taken) (omega arith) in omega arith
 
--- src/item.rt:254:9
 returns : tie.Need-returns
 returns c = rw (small-b (c .before .before .before .before .args .sw) (c .before .before .before .before .args .text .now) (c .before .before .before .before .args .at) (c .before .before .before .before .pre .1), ← c .before .before .byte-at .ensures, eq-eqb _ _ (c .before .if1 .taken)) (c .string-item .ensures)
 
--- src/item.rt:256:31
 add-opens-base64 : tie.Need-add-opens-base64
 add-opens-base64 c = omega arith
 
--- src/item.rt:256:8
 opens-base64-requires : tie.Need-opens-base64-requires
 opens-base64-requires c κs = search needs
 
--- src/item.rt:257:9
 string-item-requires-2 : tie.Need-string-item-requires-2
 string-item-requires-2 c κs = let h = base64-room (c .before .before .before .before .before .args .sw .base64) (c .before .before .before .before .before .args .text .now) (c .before .before .before .before .before .args .at + 1) (sym (c .before .opens-base64 .ensures) ∙ c .if2 .taken) in omega arith
 
--- src/item.rt:257:9
 returns-2 : tie.Need-returns-2
 returns-2 c = rw (small-b (c .before .before .before .before .before .before .args .sw) (c .before .before .before .before .before .before .args .text .now) (c .before .before .before .before .before .before .args .at) (c .before .before .before .before .before .before .pre .1), ← c .before .before .before .before .byte-at .ensures, ne-eqb _ _ (c .before .before .before .if1 .left), sym (c .before .before .opens-base64 .ensures) ∙ c .before .if2 .taken) (c .string-item2 .ensures)
 
--- src/item.rt:260:36
 add-byte-at-2 : tie.Need-add-byte-at-2
 add-byte-at-2 c = omega arith
 
--- src/item.rt:260:22
 byte-at-requires-2 : tie.Need-byte-at-requires-2
 byte-at-requires-2 c κs = search needs
 
--- src/item.rt:260:12
 opens-raw-requires : tie.Need-opens-raw-requires
 opens-raw-requires c κs = search needs
 
--- src/item.rt:261:13
 raw-item-requires : tie.Need-raw-item-requires
 raw-item-requires c κs = let h = there (c .before .before .before .before .before .before .before .before .before .args .text .now) (c .before .before .before .before .before .before .before .before .before .args .at + 1) 114 (sym (c .before .before .before .before .before .before .before .byte-at .ensures) ∙ c .before .before .before .if3 .taken) (omega arith) in omega arith
 
--- src/item.rt:261:13
 returns-3 : tie.Need-returns-3
 returns-3 c = rw (small-b (c .before .before .before .before .before .before .before .before .before .before .args .sw) (c .before .before .before .before .before .before .before .before .before .before .args .text .now) (c .before .before .before .before .before .before .before .before .before .before .args .at) (c .before .before .before .before .before .before .before .before .before .before .pre .1), ← c .before .before .before .before .before .before .before .before .byte-at .ensures, ne-eqb _ _ (c .before .before .before .before .before .before .before .if1 .left), sym (c .before .before .before .before .before .before .opens-base64 .ensures) ∙ c .before .before .before .before .before .if2 .left, eq-eqb _ _ (c .before .before .before .before .if3 .taken), ← c .before .before .before .byte-at2 .ensures, sym (c .before .before .opens-raw .ensures) ∙ c .before .if4 .taken) (c .raw-item .ensures)
 
--- src/item.rt:263:9
 word-item-requires : tie.Need-word-item-requires
 word-item-requires c κs = search needs
 
--- src/item.rt:263:9
 returns-4 : tie.Need-returns-4
 returns-4 c = rw (small-b (c .before .before .before .before .before .before .before .before .before .before .args .sw) (c .before .before .before .before .before .before .before .before .before .before .args .text .now) (c .before .before .before .before .before .before .before .before .before .before .args .at) (c .before .before .before .before .before .before .before .before .before .before .pre .1), ← c .before .before .before .before .before .before .before .before .byte-at .ensures, ne-eqb _ _ (c .before .before .before .before .before .before .before .if1 .left), sym (c .before .before .before .before .before .before .opens-base64 .ensures) ∙ c .before .before .before .before .before .if2 .left, eq-eqb _ _ (c .before .before .before .before .if3 .taken), ← c .before .before .before .byte-at2 .ensures, sym (c .before .before .opens-raw .ensures) ∙ c .before .if4 .left) (c .word-item .ensures)
 
--- src/item.rt:265:5
 word-item-requires-2 : tie.Need-word-item-requires-2
 word-item-requires-2 c κs = search needs
 
--- src/item.rt:248:1
 returns-5 : tie.Need-returns-5
 returns-5 c = rw (small-b (c .before .before .before .before .before .before .before .args .sw) (c .before .before .before .before .before .before .before .args .text .now) (c .before .before .before .before .before .before .before .args .at) (c .before .before .before .before .before .before .before .pre .1), ← c .before .before .before .before .before .byte-at .ensures, ne-eqb _ _ (c .before .before .before .before .if1 .left), sym (c .before .before .before .opens-base64 .ensures) ∙ c .before .before .if2 .left, ne-eqb _ _ (c .before .if3 .left)) (c .word-item2 .ensures)
 

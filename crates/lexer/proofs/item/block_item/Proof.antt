@@ -13,46 +13,36 @@ use Rattle.lexer.proofs.item.block_item.Reads as reads
 use Rattle.lexer.proofs.item.block_item.Lts as lts
 use Rattle.lexer.proofs.closing.find_block.Reads as find-block-reads
 
--- src/item.rt:104:28
 add-find-block : tie.Need-add-find-block
 add-find-block c = omega arith
 
--- src/item.rt:104:11
 find-block-requires : tie.Need-find-block-requires
 find-block-requires c κs = search needs
 
--- src/item.rt:105:29
 enum-told : tie.Need-enum-told
 enum-told c = search needs
 
--- src/item.rt:106:30
 enum-told-2 : tie.Need-enum-told-2
 enum-told-2 c = search needs
 
--- src/item.rt:107:23
 enum-known-n : tie.Need-enum-known-n
 enum-known-n c = search needs
 
--- src/item.rt:107:40
 add-t7 : tie.Need-add-t7
 add-t7 c = omega arith
 
--- src/item.rt:107:40
 add-t8 : tie.Need-add-t8
 add-t8 c = let h = shut-le (drop (c .before .before .before .before .before .args .at + 2) (c .before .before .before .before .before .args .text .now)) (c .before .n .given .0 .0) (sym (c .before .before .before .find-block .ensures) ∙ c .before .n .given .1) in
     let d = length-drop (c .before .before .before .before .before .args .at + 2) (c .before .before .before .before .before .args .text .now) in omega arith
 
--- src/item.rt:100:1
 returns : tie.Need-returns
 unfolding found blockItem
 returns c = rw (sym (c .before .before .find-block .ensures) ∙ c .enum-told .given .1)
 
--- src/item.rt:100:1
 returns-2 : tie.Need-returns-2
 unfolding found blockItem
 returns-2 c = rw (sym (c .before .before .find-block .ensures) ∙ c .enum-told2 .given .1)
 
--- src/item.rt:100:1
 returns-3 : tie.Need-returns-3
 unfolding found blockItem
 returns-3 c = rw (sym (c .before .before .before .find-block .ensures) ∙ c .before .n .given .1) (ap F.Gap (omega arith))

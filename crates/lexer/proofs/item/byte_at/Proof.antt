@@ -7,15 +7,12 @@ use Rattle.lexer.proofs.item.byte_at.Tie as tie
 use Rattle.lexer.proofs.item.byte_at.Reads as reads
 use Rattle.lexer.proofs.item.byte_at.Lts as lts
 
--- src/item.rt:77:16
 shared-slice-read-result : tie.Need-shared-slice-read-result
 shared-slice-read-result c = search needs
 
--- src/item.rt:77:9
 returns : tie.Need-returns
 returns c = omega arith
 
--- src/item.rt:73:1
 returns-2 : tie.Need-returns-2
 returns-2 c = sym (past (c .before .args .text .now) (c .before .args .i) (c .if1 .left))
 

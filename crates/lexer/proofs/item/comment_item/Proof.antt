@@ -13,36 +13,28 @@ use Rattle.lexer.proofs.item.block_item.Reads as block-item-reads
 use Rattle.lexer.proofs.item.byte_at.Reads as byte-at-reads
 use Rattle.lexer.proofs.runs.run_end.Reads as run-end-reads
 
--- src/item.rt:89:27
 add-byte-at : tie.Need-add-byte-at
 add-byte-at c = omega arith
 
--- src/item.rt:89:9
 byte-at-requires : tie.Need-byte-at-requires
 byte-at-requires c κs = search needs
 
--- src/item.rt:91:41
 add-run-end : tie.Need-add-run-end
 add-run-end c = omega arith
 
--- src/item.rt:91:27
 run-end-requires : tie.Need-run-end-requires
 run-end-requires c κs = let h = there (c .before .before .before .args .text .now) (c .before .before .before .args .at + 1) 47 (sym (c .before .byte-at .ensures) ∙ c .if1 .taken) (omega arith) in omega arith
 
--- src/item.rt:91:9
 returns : tie.Need-returns
 unfolding passes
 returns c = line-found (c .before .before .before .before .args .text .now) (c .before .before .before .before .args .at) _ (sym (c .before .before .byte-at .ensures) ∙ c .before .if1 .taken) (c .run-end .ensures)
 
--- src/item.rt:94:9
 block-item-requires : tie.Need-block-item-requires
 block-item-requires c κs = let h = there (c .before .before .before .before .args .text .now) (c .before .before .before .before .args .at + 1) 42 (sym (c .before .before .byte-at .ensures) ∙ c .if2 .taken) (omega arith) in omega arith
 
--- src/item.rt:94:9
 returns-2 : tie.Need-returns-2
 returns-2 c = c .block-item .ensures ∙ sym (block-found (c .before .before .before .before .before .args .text .now) (c .before .before .before .before .before .args .at) (λ e. c .before .before .if1 .left (c .before .before .before .byte-at .ensures ∙ e)) (sym (c .before .before .before .byte-at .ensures) ∙ c .before .if2 .taken))
 
--- src/item.rt:85:1
 returns-3 : tie.Need-returns-3
 returns-3 c = slash-found (c .before .before .before .before .args .text .now) (c .before .before .before .before .args .at) (λ e. c .before .if1 .left (c .before .before .byte-at .ensures ∙ e)) (λ e. c .if2 .left (c .before .before .byte-at .ensures ∙ e))
 

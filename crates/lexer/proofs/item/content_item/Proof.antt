@@ -8,39 +8,30 @@ use Rattle.lexer.proofs.item.content_item.Reads as reads
 use Rattle.lexer.proofs.item.content_item.Lts as lts
 use Rattle.literals.proofs.content.measure_content.Reads as measure-content-reads
 
--- src/item.rt:137:45
 sub-measure-content : tie.Need-sub-measure-content
 sub-measure-content c = omega arith
 
--- src/item.rt:137:45
 part-measure-content-start : tie.Need-part-measure-content-start
 part-measure-content-start c = omega arith
 
--- src/item.rt:137:45
 part-measure-content-end : tie.Need-part-measure-content-end
 part-measure-content-end c = omega arith
 
--- src/item.rt:137:11
 measure-content-requires : tie.Need-measure-content-requires
 measure-content-requires c κs = search needs
 
--- src/item.rt:138:25
 enum-known-n : tie.Need-enum-known-n
 enum-known-n c = search needs
 
--- src/item.rt:140:17
 returns : tie.Need-returns
 returns c = text-found (c .before .before .before .before .before .before .before .args .istext) (c .before .before .before .before .before .before .before .args .end) _ _ (c .if1 .taken) (sym (c .before .before .before .before .measure-content .ensures) ∙ c .before .before .n .given .1)
 
--- src/item.rt:144:29
 enum-told : tie.Need-enum-told
 enum-told c = search needs
 
--- src/item.rt:125:1
 returns-2 : tie.Need-returns-2
 returns-2 c = bytes-found (c .before .before .before .before .before .before .before .args .istext) (c .before .before .before .before .before .before .before .args .end) _ _ (c .if1 .left) (sym (c .before .before .before .before .measure-content .ensures) ∙ c .before .before .n .given .1)
 
--- src/item.rt:125:1
 returns-3 : tie.Need-returns-3
 returns-3 c = content-refused (c .before .before .before .before .before .args .istext) (c .before .before .before .before .before .args .end) _ (sym (c .before .before .measure-content .ensures) ∙ c .enum-told .given .1)
 

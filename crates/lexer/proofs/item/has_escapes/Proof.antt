@@ -7,38 +7,30 @@ use Rattle.lexer.proofs.item.has_escapes.Tie as tie
 use Rattle.lexer.proofs.item.has_escapes.Reads as reads
 use Rattle.lexer.proofs.item.has_escapes.Lts as lts
 
--- src/item.rt:117:25
 enum-told : tie.Need-enum-told
 enum-told c = search needs
 
--- src/item.rt:118:22
 enum-told-2 : tie.Need-enum-told-2
 enum-told-2 c = search needs
 
--- src/item.rt:119:25
 enum-told-3 : tie.Need-enum-told-3
 enum-told-3 c = search needs
 
--- src/item.rt:120:23
 enum-told-4 : tie.Need-enum-told-4
 enum-told-4 c = search needs
 
--- src/item.rt:113:1
 returns : tie.Need-returns
 unfolding hasEscapes
 returns c = sym (ap hasEscapes (c .enum-told .given .1))
 
--- src/item.rt:113:1
 returns-2 : tie.Need-returns-2
 unfolding hasEscapes
 returns-2 c = sym (ap hasEscapes (c .enum-told2 .given .1))
 
--- src/item.rt:113:1
 returns-3 : tie.Need-returns-3
 unfolding hasEscapes
 returns-3 c = sym (ap hasEscapes (c .enum-told3 .given .1))
 
--- src/item.rt:113:1
 returns-4 : tie.Need-returns-4
 unfolding hasEscapes
 returns-4 c = sym (ap hasEscapes (c .enum-told4 .given .1))

@@ -23,140 +23,110 @@ use Rattle.lexer.proofs.item.string_item.Reads as string-item-reads
 use Rattle.lexer.proofs.item.word_item.Reads as word-item-reads
 use Rattle.text.proofs.bytes.class_of.Reads as class-of-reads
 
--- src/item.rt:292:9
 returns : tie.Need-returns
 returns c = item-past (c .before .before .args .sw) (c .before .before .args .text .now) (c .before .before .args .at) (c .if1 .taken)
 
--- src/item.rt:294:13
 shared-slice-read-b : tie.Need-shared-slice-read-b
 shared-slice-read-b c = search needs
 
--- src/item.rt:296:49
 add-t11 : tie.Need-add-t11
 add-t11 c = omega arith
 
--- src/item.rt:296:9
 returns-2 : tie.Need-returns-2
 unfolding itemOf classOf classNumber classAt oneOf found kindOf
 returns-2 c = let j : c .before .before .before .before .args .at + 1 ≡ c .before .before .before .before .args .at + suc 0 = omega arith in
     ap (F.Token (K.Mark (getD (c .before .before .before .before .args .text .now) (c .before .before .before .before .args .at) 0))) j ∙ sym (item-by (c .before .before .before .before .args .sw) (c .before .before .before .before .args .text .now) (c .before .before .before .before .args .at) 7 7 (c .before .before .if1 .left) (ap (λ (b : ℕ). classNumber (classOf b)) (sym (c .if2 .taken))) refl)
 
--- src/item.rt:299:27
 add-t12 : tie.Need-add-t12
 add-t12 c = omega arith
 
--- src/item.rt:299:9
 returns-3 : tie.Need-returns-3
 unfolding itemOf classOf classNumber classAt oneOf found kindOf
 returns-3 c = ap F.Gap (omega arith) ∙ sym (item-by (c .before .before .before .before .before .args .sw) (c .before .before .before .before .before .args .text .now) (c .before .before .before .before .before .args .at) 0 0 (c .before .before .before .if1 .left) (ap (λ (b : ℕ). classNumber (classOf b)) (sym (c .if3 .taken))) refl)
 
--- src/item.rt:301:9
 class-of-requires : tie.Need-class-of-requires
 class-of-requires c κs = search needs
 
--- src/item.rt:303:25
 add-t14 : tie.Need-add-t14
 add-t14 c = omega arith
 
--- src/item.rt:304:14
 number-item-requires : tie.Need-number-item-requires
 number-item-requires c κs = search needs
 
--- src/item.rt:305:14
 word-item-requires : tie.Need-word-item-requires
 word-item-requires c κs = search needs
 
--- src/item.rt:306:14
 small-item-requires : tie.Need-small-item-requires
 small-item-requires c κs = search needs
 
--- src/item.rt:309:17
 word-item-requires-2 : tie.Need-word-item-requires-2
 word-item-requires-2 c κs = search needs
 
--- src/item.rt:309:17
 returns-4 : tie.Need-returns-4
 unfolding itemOf classAt found kindOf
 returns-4 c = c .word-item2 .ensures ∙ sym (item-by (c .before .before .before .before .before .before .before .before .before .args .sw) (c .before .before .before .before .before .before .before .before .before .args .text .now) (c .before .before .before .before .before .before .before .before .before .args .at) (c .before .before .before .class-of .result) 4 (c .before .before .before .before .before .before .before .if1 .left) (c .before .before .before .class-of .ensures) (c .before .before .match .keys5) ∙ rw (eq-eqb _ _ (c .before .if4 .taken)))
 
--- src/item.rt:311:13
 number-item-requires-2 : tie.Need-number-item-requires-2
 number-item-requires-2 c κs = search needs
 
--- src/item.rt:313:14
 string-item-requires : tie.Need-string-item-requires
 string-item-requires c κs = omega arith
 
--- src/item.rt:316:17
 returns-5 : tie.Need-returns-5
 unfolding itemOf classAt found kindOf
 returns-5 c = sym (item-by (c .before .before .before .before .before .before .before .before .args .sw) (c .before .before .before .before .before .before .before .before .args .text .now) (c .before .before .before .before .before .before .before .before .args .at) (c .before .before .class-of .result) 6 (c .before .before .before .before .before .before .if1 .left) (c .before .before .class-of .ensures) (c .before .match .keys7) ∙ rw (c .if5 .taken))
 
--- src/item.rt:320:47
 add-t19 : tie.Need-add-t19
 add-t19 c = omega arith
 
--- src/item.rt:321:14
 comment-item-requires : tie.Need-comment-item-requires
 comment-item-requires c κs = search needs
 
--- src/item.rt:322:14
 number-item-requires-3 : tie.Need-number-item-requires-3
 number-item-requires-3 c κs = search needs
 
--- src/item.rt:288:1
 returns-6 : tie.Need-returns-6
 unfolding itemOf classAt found kindOf
 returns-6 c = ap F.Gap (omega arith) ∙ sym (item-by (c .before .before .before .before .before .before .before .args .sw) (c .before .before .before .before .before .before .before .args .text .now) (c .before .before .before .before .before .before .before .args .at) (c .before .class-of .result) 0 (c .before .before .before .before .before .if1 .left) (c .before .class-of .ensures) (c .match .keys1))
 
--- src/item.rt:288:1
 returns-7 : tie.Need-returns-7
 unfolding itemOf classAt found kindOf
 returns-7 c = c .number-item .ensures ∙ sym (item-by (c .before .before .before .before .before .before .before .before .args .sw) (c .before .before .before .before .before .before .before .before .args .text .now) (c .before .before .before .before .before .before .before .before .args .at) (c .before .before .class-of .result) 1 (c .before .before .before .before .before .before .if1 .left) (c .before .before .class-of .ensures) (c .before .match .keys2))
 
--- src/item.rt:288:1
 returns-8 : tie.Need-returns-8
 unfolding itemOf classAt found kindOf
 returns-8 c = c .word-item .ensures ∙ sym (item-by (c .before .before .before .before .before .before .before .before .args .sw) (c .before .before .before .before .before .before .before .before .args .text .now) (c .before .before .before .before .before .before .before .before .args .at) (c .before .before .class-of .result) 2 (c .before .before .before .before .before .before .if1 .left) (c .before .before .class-of .ensures) (c .before .match .keys3))
 
--- src/item.rt:288:1
 returns-9 : tie.Need-returns-9
 unfolding itemOf classAt found kindOf
 returns-9 c = c .small-item .ensures ∙ sym (item-by (c .before .before .before .before .before .before .before .before .args .sw) (c .before .before .before .before .before .before .before .before .args .text .now) (c .before .before .before .before .before .before .before .before .args .at) (c .before .before .class-of .result) 3 (c .before .before .before .before .before .before .if1 .left) (c .before .before .class-of .ensures) (c .before .match .keys4))
 
--- src/item.rt:288:1
 returns-10 : tie.Need-returns-10
 unfolding itemOf classAt found kindOf
 returns-10 c = c .number-item2 .ensures ∙ sym (item-by (c .before .before .before .before .before .before .before .before .before .args .sw) (c .before .before .before .before .before .before .before .before .before .args .text .now) (c .before .before .before .before .before .before .before .before .before .args .at) (c .before .before .before .class-of .result) 4 (c .before .before .before .before .before .before .before .if1 .left) (c .before .before .before .class-of .ensures) (c .before .before .match .keys5) ∙ rw (ne-eqb _ _ (c .before .if4 .left)))
 
--- src/item.rt:288:1
 returns-11 : tie.Need-returns-11
 unfolding itemOf classAt found kindOf
 returns-11 c = let j : c .before .before .before .before .before .before .before .before .args .at + 1 + 0 ≡ c .before .before .before .before .before .before .before .before .args .at + 1 = omega arith in
     rw j at (c .string-item .ensures) ∙ sym (item-by (c .before .before .before .before .before .before .before .before .args .sw) (c .before .before .before .before .before .before .before .before .args .text .now) (c .before .before .before .before .before .before .before .before .args .at) (c .before .before .class-of .result) 5 (c .before .before .before .before .before .before .if1 .left) (c .before .before .class-of .ensures) (c .before .match .keys6))
 
--- src/item.rt:288:1
 returns-12 : tie.Need-returns-12
 unfolding itemOf classAt found kindOf
 returns-12 c = sym (item-by (c .before .before .before .before .before .before .before .before .args .sw) (c .before .before .before .before .before .before .before .before .args .text .now) (c .before .before .before .before .before .before .before .before .args .at) (c .before .before .class-of .result) 6 (c .before .before .before .before .before .before .if1 .left) (c .before .before .class-of .ensures) (c .before .match .keys7) ∙ rw (c .if5 .left))
 
--- src/item.rt:288:1
 returns-13 : tie.Need-returns-13
 unfolding itemOf classAt found kindOf
 returns-13 c = let j : c .before .before .before .before .before .before .before .args .at + 1 ≡ c .before .before .before .before .before .before .before .args .at + suc 0 = omega arith in
     ap (F.Token (K.Mark (getD (c .before .before .before .before .before .before .before .args .text .now) (c .before .before .before .before .before .before .before .args .at) 0))) j ∙ sym (item-by (c .before .before .before .before .before .before .before .args .sw) (c .before .before .before .before .before .before .before .args .text .now) (c .before .before .before .before .before .before .before .args .at) (c .before .class-of .result) 7 (c .before .before .before .before .before .if1 .left) (c .before .class-of .ensures) (c .match .keys8))
 
--- src/item.rt:288:1
 returns-14 : tie.Need-returns-14
 unfolding itemOf classAt found kindOf
 returns-14 c = c .comment-item .ensures ∙ sym (item-by (c .before .before .before .before .before .before .before .before .args .sw) (c .before .before .before .before .before .before .before .before .args .text .now) (c .before .before .before .before .before .before .before .before .args .at) (c .before .before .class-of .result) 8 (c .before .before .before .before .before .before .if1 .left) (c .before .before .class-of .ensures) (c .before .match .keys9))
 
--- src/item.rt:288:1
 returns-15 : tie.Need-returns-15
 unfolding itemOf classAt found kindOf
 returns-15 c = c .number-item3 .ensures ∙ sym (item-by (c .before .before .before .before .before .before .before .before .args .sw) (c .before .before .before .before .before .before .before .before .args .text .now) (c .before .before .before .before .before .before .before .before .args .at) (c .before .before .class-of .result) 9 (c .before .before .before .before .before .before .if1 .left) (c .before .before .class-of .ensures) (c .before .match .keys10))
 
--- src/item.rt:288:1
 returns-16 : tie.Need-returns-16
 unfolding itemOf found
 returns-16 c = let r = c .match .rest in

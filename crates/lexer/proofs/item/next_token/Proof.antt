@@ -18,47 +18,36 @@ Inv-loop sw text at i₀ i = tokensFrom sw text at ≡ tokensFrom sw text i
 abbrev μ-loop : tie.MeasureT-loop
 μ-loop sw text at i₀ i = length text - i
 
--- src/item.rt:325:5
 loop-holds : tie.Need-loop-holds Inv-loop μ-loop
 loop-holds c = refl
 
--- src/item.rt:326:15
 item-at-requires : tie.Need-item-at-requires Inv-loop μ-loop
 item-at-requires c κs = search needs
 
--- src/item.rt:327:24
 enum-known-end : tie.Need-enum-known-end Inv-loop μ-loop
 enum-known-end c = search needs
 
--- src/item.rt:325:5
 loop-less : tie.Need-loop-less Inv-loop μ-loop
 loop-less c = let g = after-gap (c .before .before .before .before .before .before .args .sw) (c .before .before .before .before .before .before .args .text .now) (c .before .before .before .before .loop .i) (c .before .end .given .0 .0) (sym (c .before .before .before .item-at .ensures) ∙ c .before .end .given .1) in omega arith
 
--- src/item.rt:325:5
 loop-again : tie.Need-loop-again Inv-loop μ-loop
 loop-again c = let g = after-gap (c .before .before .before .before .before .before .args .sw) (c .before .before .before .before .before .before .args .text .now) (c .before .before .before .before .loop .i) (c .before .end .given .0 .0) (sym (c .before .before .before .item-at .ensures) ∙ c .before .end .given .1) in c .before .before .before .before .loop .inv ∙ g .0
 
--- src/item.rt:330:26
 enum-known-kind : tie.Need-enum-known-kind Inv-loop μ-loop
 enum-known-kind c = search needs
 
--- src/item.rt:331:17
 returns : tie.Need-returns Inv-loop μ-loop
 returns c = sym (ap firstOf (c .before .before .before .before .loop .inv) ∙ at-token (c .before .before .before .before .before .before .args .sw) (c .before .before .before .before .before .before .args .text .now) (c .before .before .before .before .loop .i) _ _ (sym (c .before .before .before .item-at .ensures) ∙ c .before .kind .given .1))
 
--- src/item.rt:337:26
 enum-known-number : tie.Need-enum-known-number Inv-loop μ-loop
 enum-known-number c = search needs
 
--- src/item.rt:338:17
 returns-2 : tie.Need-returns-2 Inv-loop μ-loop
 returns-2 c = sym (ap firstOf (c .before .before .before .before .loop .inv) ∙ at-fault (c .before .before .before .before .before .before .args .sw) (c .before .before .before .before .before .before .args .text .now) (c .before .before .before .before .loop .i) _ (sym (c .before .before .before .item-at .ensures) ∙ c .before .number .given .1))
 
--- src/item.rt:341:17
 enum-told : tie.Need-enum-told Inv-loop μ-loop
 enum-told c = search needs
 
--- src/item.rt:341:17
 returns-3 : tie.Need-returns-3 Inv-loop μ-loop
 returns-3 c = sym (ap firstOf (c .before .before .before .loop .inv) ∙ at-end (c .before .before .before .before .before .args .sw) (c .before .before .before .before .before .args .text .now) (c .before .before .before .loop .i) (sym (c .before .before .item-at .ensures) ∙ c .enum-told .given .1))
 

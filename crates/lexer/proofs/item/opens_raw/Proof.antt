@@ -6,11 +6,9 @@ use Rattle.lexer.proofs.item.opens_raw.Tie as tie
 use Rattle.lexer.proofs.item.opens_raw.Reads as reads
 use Rattle.lexer.proofs.item.opens_raw.Lts as lts
 
--- src/item.rt:173:9
 returns : tie.Need-returns
 returns c = rw (eq-eqb _ _ (c .if1 .taken))
 
--- src/item.rt:169:1
 returns-2 : tie.Need-returns-2
 returns-2 c = rw (ne-eqb _ _ (c .if1 .left))
 

@@ -18,42 +18,33 @@ use Rattle.lexer.proofs.item.byte_at.Reads as byte-at-reads
 use Rattle.lexer.proofs.item.string_item.Reads as string-item-reads
 use Rattle.lexer.proofs.runs.run_end.Reads as run-end-reads
 
--- src/item.rt:183:16
 add-from : tie.Need-add-from
 add-from c = omega arith
 
--- src/item.rt:183:16
 add-from-2 : tie.Need-add-from-2
 add-from-2 c = omega arith
 
--- src/item.rt:184:9
 run-end-requires : tie.Need-run-end-requires
 run-end-requires c κs = search needs
 
--- src/item.rt:185:8
 byte-at-requires : tie.Need-byte-at-requires
 byte-at-requires c κs = search needs
 
--- src/item.rt:186:17
 sub-k : tie.Need-sub-k
 sub-k c = omega arith
 
--- src/item.rt:187:61
 add-string-item : tie.Need-add-string-item
 unfolding passes
 add-string-item c = let h = there (c .before .before .before .before .args .text .now) (c .before .before .run-end .result) 34 (sym (c .before .byte-at .ensures) ∙ c .if1 .taken) (omega arith) in omega arith
 
--- src/item.rt:187:61
 add-string-item-2 : tie.Need-add-string-item-2
 unfolding passes
 add-string-item-2 c = let h = there (c .before .before .before .before .args .text .now) (c .before .before .run-end .result) 34 (sym (c .before .byte-at .ensures) ∙ c .if1 .taken) (omega arith) in omega arith
 
--- src/item.rt:187:9
 string-item-requires : tie.Need-string-item-requires
 unfolding passes
 string-item-requires c κs = let h = there (c .before .before .before .before .args .text .now) (c .before .before .run-end .result) 34 (sym (c .before .byte-at .ensures) ∙ c .if1 .taken) (omega arith) in omega arith
 
--- src/item.rt:187:9
 returns : tie.Need-returns
 unfolding passes
 returns c = let j : c .before .before .before .before .before .args .at + 1 + (c .before .before .before .before .before .args .head + (c .before .before .before .run-end .result - (c .before .before .before .before .before .args .at + 1 + c .before .before .before .before .before .args .head)) + 1) ≡ c .before .before .before .before .before .args .at + 1 + c .before .before .before .before .before .args .head + ((c .before .before .before .run-end .result - (c .before .before .before .before .before .args .at + 1 + c .before .before .before .before .before .args .head)) + 1) = omega arith in
@@ -61,7 +52,6 @@ returns c = let j : c .before .before .before .before .before .args .at + 1 + (c
     ∙ ap (λ (n : ℕ). found (c .before .before .before .before .before .args .at) (stringItem (c .before .before .before .before .before .args .sw) (c .before .before .before .before .before .args .istext) Y.Raw (c .before .before .before .before .before .args .head + (c .before .before .before .run-end .result - (c .before .before .before .before .before .args .at + 1 + c .before .before .before .before .before .args .head)) + 1) (c .before .before .before .run-end .result - (c .before .before .before .before .before .args .at + 1 + c .before .before .before .before .before .args .head)) (drop n (c .before .before .before .before .before .args .text .now)))) j
     ∙ ap (found (c .before .before .before .before .before .args .at)) (sym (raw-opens (c .before .before .before .before .before .args .sw) (c .before .before .before .before .before .args .istext) (c .before .before .before .before .before .args .head) (c .before .before .before .before .before .args .text .now) (c .before .before .before .before .before .args .at + 1 + c .before .before .before .before .before .args .head) (c .before .before .before .run-end .result - (c .before .before .before .before .before .args .at + 1 + c .before .before .before .before .before .args .head)) (c .before .before .before .run-end .result) (omega arith) (omega arith) (sym (c .before .before .byte-at .ensures) ∙ c .before .if1 .taken)))
 
--- src/item.rt:179:1
 returns-2 : tie.Need-returns-2
 unfolding passes found
 returns-2 c = ap (found (c .before .before .before .before .args .at)) (sym (raw-fails (c .before .before .before .before .args .sw) (c .before .before .before .before .args .istext) (c .before .before .before .before .args .head) (c .before .before .before .before .args .text .now) (c .before .before .before .before .args .at + 1 + c .before .before .before .before .args .head) (c .before .before .run-end .result - (c .before .before .before .before .args .at + 1 + c .before .before .before .before .args .head)) (c .before .before .run-end .result) (omega arith) (omega arith) (λ e. c .if1 .left (c .before .byte-at .ensures ∙ e))))

@@ -17,52 +17,40 @@ use Rattle.lexer.proofs.item.opens_raw.Reads as opens-raw-reads
 use Rattle.lexer.proofs.item.raw_item.Reads as raw-item-reads
 use Rattle.lexer.proofs.item.word_item.Reads as word-item-reads
 
--- src/item.rt:273:13
 shared-slice-read-b : tie.Need-shared-slice-read-b
 shared-slice-read-b c = search needs
 
--- src/item.rt:275:9
 b-item-requires : tie.Need-b-item-requires
 b-item-requires c κs = search needs
 
--- src/item.rt:275:9
 returns : tie.Need-returns
 returns c = c .b-item .ensures
 
--- src/item.rt:278:36
 add-byte-at : tie.Need-add-byte-at
 add-byte-at c = omega arith
 
--- src/item.rt:278:22
 byte-at-requires : tie.Need-byte-at-requires
 byte-at-requires c κs = search needs
 
--- src/item.rt:278:12
 opens-raw-requires : tie.Need-opens-raw-requires
 opens-raw-requires c κs = search needs
 
--- src/item.rt:279:13
 raw-item-requires : tie.Need-raw-item-requires
 raw-item-requires c κs = search needs
 
--- src/item.rt:279:13
 returns-2 : tie.Need-returns-2
 returns-2 c = let j : c .before .before .before .before .before .before .before .before .args .at + 1 + 0 ≡ c .before .before .before .before .before .before .before .before .args .at + 1 = omega arith in
     rw (small-r (c .before .before .before .before .before .before .before .before .args .sw) (c .before .before .before .before .before .before .before .before .args .text .now) (c .before .before .before .before .before .before .before .before .args .at) (c .before .before .before .before .if2 .taken), ← c .before .before .before .byte-at .ensures, sym (c .before .before .opens-raw .ensures) ∙ c .before .if3 .taken) (rw j at (c .raw-item .ensures))
 
--- src/item.rt:281:9
 word-item-requires : tie.Need-word-item-requires
 word-item-requires c κs = search needs
 
--- src/item.rt:281:9
 returns-3 : tie.Need-returns-3
 returns-3 c = rw (small-r (c .before .before .before .before .before .before .before .before .args .sw) (c .before .before .before .before .before .before .before .before .args .text .now) (c .before .before .before .before .before .before .before .before .args .at) (c .before .before .before .before .if2 .taken), ← c .before .before .before .byte-at .ensures, sym (c .before .before .opens-raw .ensures) ∙ c .before .if3 .left) (c .word-item .ensures)
 
--- src/item.rt:283:5
 word-item-requires-2 : tie.Need-word-item-requires-2
 word-item-requires-2 c κs = search needs
 
--- src/item.rt:269:1
 returns-4 : tie.Need-returns-4
 returns-4 c = rw (small-other (c .before .before .before .before .before .args .sw) (c .before .before .before .before .before .args .text .now) (c .before .before .before .before .before .args .at) (c .before .before .if1 .left) (c .before .if2 .left)) (c .word-item2 .ensures)
 

@@ -22,74 +22,57 @@ use Rattle.lexer.proofs.item.has_escapes.Reads as has-escapes-reads
 told : (e f : Bool) (k : ℕ) (l : _) (r c : Closing) → r ≡ closing e k l → e ≡ f → r ≡ c → closing f k l ≡ c
 told e f k l r c p q z = ap (λ (x : Bool). closing x k l) (sym q) ∙ sym p ∙ z
 
--- src/item.rt:161:16
 add-from : tie.Need-add-from
 add-from c = omega arith
 
--- src/item.rt:161:16
 add-from-2 : tie.Need-add-from-2
 add-from-2 c = omega arith
 
--- src/item.rt:162:36
 has-escapes-requires : tie.Need-has-escapes-requires
 has-escapes-requires c κs = search needs
 
--- src/item.rt:162:11
 find-closing-requires : tie.Need-find-closing-requires
 find-closing-requires c κs = search needs
 
--- src/item.rt:163:31
 enum-told : tie.Need-enum-told
 enum-told c = search needs
 
--- src/item.rt:164:32
 enum-told-2 : tie.Need-enum-told-2
 enum-told-2 c = search needs
 
--- src/item.rt:165:34
 enum-told-3 : tie.Need-enum-told-3
 enum-told-3 c = search needs
 
--- src/item.rt:166:25
 enum-known-n : tie.Need-enum-known-n
 enum-known-n c = search needs
 
--- src/item.rt:172:21
 sub-content-item : tie.Need-sub-content-item
 sub-content-item c = let w = closed-within (hasEscapes (c .before .before .before .before .before .before .args .body)) (c .before .before .before .before .before .before .args .k) (drop (c .before .before .before .before .before .before .args .at + 1 + c .before .before .before .before .before .before .args .head) (c .before .before .before .before .before .before .args .text .now)) (c .before .n .given .0 .0) (told _ _ _ _ _ _ (c .before .before .before .find-closing .ensures) (c .before .before .before .before .has-escapes .ensures) (c .before .n .given .1)) in omega arith
 
--- src/item.rt:172:21
 sub-content-item-2 : tie.Need-sub-content-item-2
 sub-content-item-2 c = let w = closed-within (hasEscapes (c .before .before .before .before .before .before .args .body)) (c .before .before .before .before .before .before .args .k) (drop (c .before .before .before .before .before .before .args .at + 1 + c .before .before .before .before .before .before .args .head) (c .before .before .before .before .before .before .args .text .now)) (c .before .n .given .0 .0) (told _ _ _ _ _ _ (c .before .before .before .find-closing .ensures) (c .before .before .before .before .has-escapes .ensures) (c .before .n .given .1)) in omega arith
 
--- src/item.rt:172:13
 add-content-item : tie.Need-add-content-item
 add-content-item c = let w = closed-within (hasEscapes (c .before .before .before .before .before .before .args .body)) (c .before .before .before .before .before .before .args .k) (drop (c .before .before .before .before .before .before .args .at + 1 + c .before .before .before .before .before .before .args .head) (c .before .before .before .before .before .before .args .text .now)) (c .before .n .given .0 .0) (told _ _ _ _ _ _ (c .before .before .before .find-closing .ensures) (c .before .before .before .before .has-escapes .ensures) (c .before .n .given .1)) in
     let d = length-drop (c .before .before .before .before .before .before .args .at + 1 + c .before .before .before .before .before .before .args .head) (c .before .before .before .before .before .before .args .text .now) in omega arith
 
--- src/item.rt:173:13
 add-content-item-2 : tie.Need-add-content-item-2
 add-content-item-2 c = let w = closed-within (hasEscapes (c .before .before .before .before .before .before .args .body)) (c .before .before .before .before .before .before .args .k) (drop (c .before .before .before .before .before .before .args .at + 1 + c .before .before .before .before .before .before .args .head) (c .before .before .before .before .before .before .args .text .now)) (c .before .n .given .0 .0) (told _ _ _ _ _ _ (c .before .before .before .find-closing .ensures) (c .before .before .before .before .has-escapes .ensures) (c .before .n .given .1)) in
     let d = length-drop (c .before .before .before .before .before .before .args .at + 1 + c .before .before .before .before .before .before .args .head) (c .before .before .before .before .before .before .args .text .now) in omega arith
 
--- src/item.rt:166:31
 content-item-requires : tie.Need-content-item-requires
 content-item-requires c κs = let w = closed-within (hasEscapes (c .before .before .before .before .before .before .args .body)) (c .before .before .before .before .before .before .args .k) (drop (c .before .before .before .before .before .before .args .at + 1 + c .before .before .before .before .before .before .args .head) (c .before .before .before .before .before .before .args .text .now)) (c .before .n .given .0 .0) (told _ _ _ _ _ _ (c .before .before .before .find-closing .ensures) (c .before .before .before .before .has-escapes .ensures) (c .before .n .given .1)) in
     let d = length-drop (c .before .before .before .before .before .before .args .at + 1 + c .before .before .before .before .before .before .args .head) (c .before .before .before .before .before .before .args .text .now) in (omega arith, omega arith)
 
--- src/item.rt:149:1
 returns : tie.Need-returns
 returns c = inside-found (c .before .before .before .before .before .args .sw) (c .before .before .before .before .before .args .istext) (c .before .before .before .before .before .args .body) (c .before .before .before .before .before .args .at) (c .before .before .before .before .before .args .head) (c .before .before .before .before .before .args .k) _ _ (told _ _ _ _ _ _ (c .before .before .find-closing .ensures) (c .before .before .before .has-escapes .ensures) (c .enum-told .given .1))
 
--- src/item.rt:149:1
 returns-2 : tie.Need-returns-2
 returns-2 c = escaped-found (c .before .before .before .before .before .args .sw) (c .before .before .before .before .before .args .istext) (c .before .before .before .before .before .args .body) (c .before .before .before .before .before .args .at) (c .before .before .before .before .before .args .head) (c .before .before .before .before .before .args .k) _ _ (told _ _ _ _ _ _ (c .before .before .find-closing .ensures) (c .before .before .before .has-escapes .ensures) (c .enum-told2 .given .1))
 
--- src/item.rt:149:1
 returns-3 : tie.Need-returns-3
 returns-3 c = hashes-found (c .before .before .before .before .before .args .sw) (c .before .before .before .before .before .args .istext) (c .before .before .before .before .before .args .body) (c .before .before .before .before .before .args .at) (c .before .before .before .before .before .args .head) (c .before .before .before .before .before .args .k) _ _ _ (told _ _ _ _ _ _ (c .before .before .find-closing .ensures) (c .before .before .before .has-escapes .ensures) (c .enum-told3 .given .1))
 
--- src/item.rt:149:1
 returns-4 : tie.Need-returns-4
 returns-4 c = closed-found (c .before .before .before .before .before .before .before .args .sw) (c .before .before .before .before .before .before .before .args .istext) (c .before .before .before .before .before .before .before .args .body) (c .before .before .before .before .before .before .before .args .at) (c .before .before .before .before .before .before .before .args .head) (c .before .before .before .before .before .before .before .args .k) _ (c .before .before .n .given .0 .0) (c .before .before .before .before .before .before .before .args .at + 1 + c .before .before .before .before .before .before .before .args .head + (c .before .before .n .given .0 .0 - 1 - c .before .before .before .before .before .before .before .args .k) - (c .before .before .before .before .before .before .before .args .at + 1 + c .before .before .before .before .before .before .before .args .head)) (c .before .before .before .before .before .before .before .args .at + 1 + c .before .before .before .before .before .before .before .args .head + c .before .before .n .given .0 .0) _ (told _ _ _ _ _ _ (c .before .before .before .before .find-closing .ensures) (c .before .before .before .before .before .has-escapes .ensures) (c .before .before .n .given .1)) (omega arith) (omega arith) (c .content-item .ensures)
 

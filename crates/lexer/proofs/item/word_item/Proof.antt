@@ -13,38 +13,30 @@ use Rattle.lexer.proofs.item.word_item.Lts as lts
 use Rattle.lexer.proofs.runs.run_end.Reads as run-end-reads
 use Rattle.literals.proofs.word.has_shape.Reads as has-shape-reads
 
--- src/item.rt:225:29
 add-run-end : tie.Need-add-run-end
 add-run-end c = omega arith
 
--- src/item.rt:225:9
 run-end-requires : tie.Need-run-end-requires
 run-end-requires c κs = search needs
 
--- src/item.rt:226:18
 sub-has-shape : tie.Need-sub-has-shape
 unfolding passes
 sub-has-shape c = let w = run-within isWordByte (c .before .before .args .text .now) (c .before .before .args .at + 1) (omega arith) in omega arith
 
--- src/item.rt:226:18
 part-has-shape-start : tie.Need-part-has-shape-start
 part-has-shape-start c = omega arith
 
--- src/item.rt:226:18
 part-has-shape-end : tie.Need-part-has-shape-end
 unfolding passes
 part-has-shape-end c = let w = run-within isWordByte (c .before .before .args .text .now) (c .before .before .args .at + 1) (omega arith) in let e = c .run-end .ensures in omega arith
 
--- src/item.rt:226:8
 has-shape-requires : tie.Need-has-shape-requires
 has-shape-requires c κs = search needs
 
--- src/item.rt:227:9
 returns : tie.Need-returns
 unfolding passes
 returns c = word-found (c .before .before .before .before .before .args .text .now) (c .before .before .before .before .before .args .at) (c .before .before .before .run-end .result) (omega arith) (c .before .before .before .run-end .ensures) (sym (c .before .has-shape .ensures) ∙ c .if1 .taken)
 
--- src/item.rt:221:1
 returns-2 : tie.Need-returns-2
 unfolding passes
 returns-2 c = word-bad (c .before .before .before .before .before .args .text .now) (c .before .before .before .before .before .args .at) (c .before .before .before .run-end .result) (omega arith) (c .before .before .before .run-end .ensures) (sym (c .before .has-shape .ensures) ∙ c .if1 .left)

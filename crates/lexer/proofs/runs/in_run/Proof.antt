@@ -11,61 +11,48 @@ use Rattle.lexer.proofs.runs.in_run.Reads as reads
 use Rattle.lexer.proofs.runs.in_run.Lts as lts
 use Rattle.lexer.proofs.runs.is_word_byte.Reads as is-word-byte-reads
 
--- src/runs.rt:42:22
 enum-told : tie.Need-enum-told
 enum-told c = search needs
 
--- src/runs.rt:42:22
 is-word-byte-requires : tie.Need-is-word-byte-requires
 is-word-byte-requires c κs = search needs
 
--- src/runs.rt:44:16
 enum-told-2 : tie.Need-enum-told-2
 enum-told-2 c = search needs
 
--- src/runs.rt:45:17
 returns : tie.Need-returns
 unfolding passes isNumberByte notNewline
 returns c = rw (c .before .enum-told2 .given .1, eq-eqb _ _ (c .if1 .taken))
 
--- src/runs.rt:48:17
 returns-2 : tie.Need-returns-2
 unfolding passes isNumberByte notNewline
 returns-2 c = rw (c .before .before .enum-told2 .given .1, ne-eqb _ _ (c .before .if1 .left), eq-eqb _ _ (c .if2 .taken))
 
--- src/runs.rt:50:13
 is-word-byte-requires-2 : tie.Need-is-word-byte-requires-2
 is-word-byte-requires-2 c κs = search needs
 
--- src/runs.rt:53:16
 enum-told-3 : tie.Need-enum-told-3
 enum-told-3 c = search needs
 
--- src/runs.rt:54:17
 returns-3 : tie.Need-returns-3
 unfolding passes isNumberByte notNewline
 returns-3 c = rw (c .before .enum-told3 .given .1, eq-eqb _ _ (c .if3 .taken))
 
--- src/runs.rt:58:22
 enum-told-4 : tie.Need-enum-told-4
 enum-told-4 c = search needs
 
--- src/runs.rt:38:1
 returns-4 : tie.Need-returns-4
 unfolding passes isNumberByte notNewline
 returns-4 c = rw (c .before .enum-told .given .1) (c .is-word-byte .ensures)
 
--- src/runs.rt:38:1
 returns-5 : tie.Need-returns-5
 unfolding passes isNumberByte notNewline
 returns-5 c = rw (c .before .before .before .enum-told2 .given .1, ne-eqb _ _ (c .before .before .if1 .left), ne-eqb _ _ (c .before .if2 .left)) (c .is-word-byte2 .ensures)
 
--- src/runs.rt:38:1
 returns-6 : tie.Need-returns-6
 unfolding passes isNumberByte notNewline
 returns-6 c = rw (c .before .enum-told3 .given .1, ne-eqb _ _ (c .if3 .left))
 
--- src/runs.rt:38:1
 returns-7 : tie.Need-returns-7
 unfolding passes isNumberByte notNewline
 returns-7 c = rw (c .enum-told4 .given .1)

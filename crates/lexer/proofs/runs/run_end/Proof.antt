@@ -18,35 +18,27 @@ Inv-loop text from run i₀ i = (i ≤ length text) × (from + front (passes run
 abbrev μ-loop : tie.MeasureT-loop
 μ-loop text from run i₀ i = length text - i
 
--- src/runs.rt:56:5
 loop-holds : tie.Need-loop-holds Inv-loop μ-loop
 loop-holds c = (omega arith, refl)
 
--- src/runs.rt:57:24
 shared-slice-read-in-run : tie.Need-shared-slice-read-in-run Inv-loop μ-loop
 shared-slice-read-in-run c = search needs
 
--- src/runs.rt:57:12
 in-run-requires : tie.Need-in-run-requires Inv-loop μ-loop
 in-run-requires c κs = search needs
 
--- src/runs.rt:58:13
 add-i : tie.Need-add-i Inv-loop μ-loop
 add-i c = omega arith
 
--- src/runs.rt:56:5
 loop-less : tie.Need-loop-less Inv-loop μ-loop
 loop-less c = omega arith
 
--- src/runs.rt:56:5
 loop-again : tie.Need-loop-again Inv-loop μ-loop
 loop-again c = (omega arith, c .before .before .before .before .loop .inv .1 ∙ run-more (passes (c .before .before .before .before .before .before .args .run)) (c .before .before .before .before .before .before .args .text .now) (c .before .before .before .before .loop .i) (omega arith) (sym (c .before .in-run .ensures) ∙ c .if1 .taken))
 
--- src/runs.rt:60:13
 returns : tie.Need-returns Inv-loop μ-loop
 returns c = sym (c .before .before .before .before .loop .inv .1 ∙ run-stop (passes (c .before .before .before .before .before .before .args .run)) (c .before .before .before .before .before .before .args .text .now) (c .before .before .before .before .loop .i) (omega arith) (sym (c .before .in-run .ensures) ∙ c .if1 .left))
 
--- src/runs.rt:51:1
 returns-2 : tie.Need-returns-2 Inv-loop μ-loop
 returns-2 c = sym (c .before .loop .inv .1 ∙ run-done (passes (c .before .before .before .args .run)) (c .before .before .before .args .text .now) (c .before .loop .i) (omega arith))
 

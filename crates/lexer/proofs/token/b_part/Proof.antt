@@ -17,62 +17,48 @@ use Rattle.lexer.proofs.token.raw_part.Reads as raw-part-reads
 use Rattle.lexer.proofs.token.string_part.Reads as string-part-reads
 use Rattle.lexer.proofs.token.word_part.Reads as word-part-reads
 
--- src/token.rt:77:9
 byte-at-requires : tie.Need-byte-at-requires
 byte-at-requires c κs = search needs
 
--- src/token.rt:79:9
 string-part-requires : tie.Need-string-part-requires
 string-part-requires c κs = let h = there (c .before .before .before .args .token .now) 1 34 (sym (c .before .byte-at .ensures) ∙ c .if1 .taken) (omega arith) in
     (omega arith, b-quoted (c .before .before .before .args .sw) (c .before .before .before .args .token .now) (c .before .before .before .pre .1) (c .before .before .before .pre .0) (sym (c .before .byte-at .ensures) ∙ c .if1 .taken))
 
--- src/token.rt:79:9
 returns : tie.Need-returns
 returns c = c .string-part .ensures
 
--- src/token.rt:81:8
 opens-base64-requires : tie.Need-opens-base64-requires
 opens-base64-requires c κs = let h = there (c .before .before .before .args .token .now) 0 98 (c .before .before .before .pre .0) (omega arith) in omega arith
 
--- src/token.rt:82:9
 string-part-requires-2 : tie.Need-string-part-requires-2
 string-part-requires-2 c κs = let h = base64-room (c .before .before .before .before .before .args .sw .base64) (c .before .before .before .before .before .args .token .now) 1 (sym (c .before .opens-base64 .ensures) ∙ c .if2 .taken) in
     (omega arith, b-base64 (c .before .before .before .before .before .args .sw) (c .before .before .before .before .before .args .token .now) (c .before .before .before .before .before .pre .1) (c .before .before .before .before .before .pre .0) (λ e. c .before .before .if1 .left (c .before .before .before .byte-at .ensures ∙ e)) (sym (c .before .opens-base64 .ensures) ∙ c .if2 .taken))
 
--- src/token.rt:82:9
 returns-2 : tie.Need-returns-2
 returns-2 c = c .string-part2 .ensures
 
--- src/token.rt:85:22
 byte-at-requires-2 : tie.Need-byte-at-requires-2
 byte-at-requires-2 c κs = search needs
 
--- src/token.rt:85:12
 opens-raw-requires : tie.Need-opens-raw-requires
 opens-raw-requires c κs = search needs
 
--- src/token.rt:86:13
 raw-part-requires : tie.Need-raw-part-requires
 raw-part-requires c κs = let h = there (c .before .before .before .before .before .before .before .before .before .args .token .now) 1 114 (sym (c .before .before .before .before .before .before .before .byte-at .ensures) ∙ c .before .before .before .if3 .taken) (omega arith) in
     (omega arith, b-raw (c .before .before .before .before .before .before .before .before .before .args .sw) (c .before .before .before .before .before .before .before .before .before .args .token .now) (c .before .before .before .before .before .before .before .before .before .pre .1) (c .before .before .before .before .before .before .before .before .before .pre .0) (λ e. c .before .before .before .before .before .before .if1 .left (c .before .before .before .before .before .before .before .byte-at .ensures ∙ e)) (sym (c .before .before .before .before .before .opens-base64 .ensures) ∙ c .before .before .before .before .if2 .left) (sym (c .before .before .before .before .before .before .before .byte-at .ensures) ∙ c .before .before .before .if3 .taken) (ap (λ (b : ℕ). eqb b 34 || eqb b 35) (sym (c .before .before .byte-at2 .ensures)) ∙ sym (c .before .opens-raw .ensures) ∙ c .if4 .taken))
 
--- src/token.rt:86:13
 returns-3 : tie.Need-returns-3
 returns-3 c = c .raw-part .ensures
 
--- src/token.rt:88:9
 word-part-requires : tie.Need-word-part-requires
 word-part-requires c κs = br-word (c .before .before .before .before .before .before .before .before .before .args .sw) (c .before .before .before .before .before .before .before .before .before .args .token .now) (c .before .before .before .before .before .before .before .before .before .pre .1) (c .before .before .before .before .before .before .before .before .before .pre .0) (λ e. c .before .before .before .before .before .before .if1 .left (c .before .before .before .before .before .before .before .byte-at .ensures ∙ e)) (sym (c .before .before .before .before .before .opens-base64 .ensures) ∙ c .before .before .before .before .if2 .left) (sym (c .before .before .before .before .before .before .before .byte-at .ensures) ∙ c .before .before .before .if3 .taken) (ap (λ (b : ℕ). eqb b 34 || eqb b 35) (sym (c .before .before .byte-at2 .ensures)) ∙ sym (c .before .opens-raw .ensures) ∙ c .if4 .left)
 
--- src/token.rt:88:9
 returns-4 : tie.Need-returns-4
 returns-4 c = c .word-part .ensures
 
--- src/token.rt:90:5
 word-part-requires-2 : tie.Need-word-part-requires-2
 word-part-requires-2 c κs = b-word (c .before .before .before .before .before .before .args .sw) (c .before .before .before .before .before .before .args .token .now) (c .before .before .before .before .before .before .pre .1) (c .before .before .before .before .before .before .pre .0) (λ e. c .before .before .before .if1 .left (c .before .before .before .before .byte-at .ensures ∙ e)) (sym (c .before .before .opens-base64 .ensures) ∙ c .before .if2 .left) (λ e. c .if3 .left (c .before .before .before .before .byte-at .ensures ∙ e))
 
--- src/token.rt:72:1
 returns-5 : tie.Need-returns-5
 returns-5 c = c .word-part2 .ensures
 

@@ -9,49 +9,38 @@ use Rattle.lexer.proofs.token.is_keyed.Lts as lts
 use Rattle.lexer.proofs.item.item_at.Reads as item-at-reads
 use Rattle.lexer.proofs.token.is_key_kind.Reads as is-key-kind-reads
 
--- src/token.rt:145:11
 item-at-requires : tie.Need-item-at-requires
 item-at-requires c κs = search needs
 
--- src/token.rt:146:26
 enum-told : tie.Need-enum-told
 enum-told c = search needs
 
--- src/token.rt:147:22
 enum-known-kind : tie.Need-enum-known-kind
 enum-known-kind c = search needs
 
--- src/token.rt:149:17
 is-key-kind-requires : tie.Need-is-key-kind-requires
 is-key-kind-requires c κs = search needs
 
--- src/token.rt:149:17
 returns : tie.Need-returns
 returns c = c .is-key-kind .ensures ∙ token-all (c .before .before .before .before .before .before .before .args .sw) (c .before .before .before .before .before .before .before .args .token .now) (c .before .before .before .kind .given .0 .0) (c .before .before .before .kind .given .0 .1 .0) (sym (c .before .before .before .before .before .item-at .ensures) ∙ c .before .before .before .kind .given .1) (c .before .if1 .taken)
 
--- src/token.rt:153:28
 enum-told-2 : tie.Need-enum-told-2
 enum-told-2 c = search needs
 
--- src/token.rt:154:27
 enum-told-3 : tie.Need-enum-told-3
 enum-told-3 c = search needs
 
--- src/token.rt:142:1
 returns-2 : tie.Need-returns-2
 unfolding isToken
 returns-2 c = no-token (c .before .before .before .before .args .sw) (c .before .before .before .before .args .token .now) _ (sym (c .before .before .item-at .ensures) ∙ c .enum-told .given .1) refl
 
--- src/token.rt:142:1
 returns-3 : tie.Need-returns-3
 returns-3 c = token-short (c .before .before .before .before .before .before .args .sw) (c .before .before .before .before .before .before .args .token .now) (c .before .before .kind .given .0 .0) (c .before .before .kind .given .0 .1 .0) (sym (c .before .before .before .before .item-at .ensures) ∙ c .before .before .kind .given .1) (c .if1 .left)
 
--- src/token.rt:142:1
 returns-4 : tie.Need-returns-4
 unfolding isToken
 returns-4 c = no-token (c .before .before .before .before .args .sw) (c .before .before .before .before .args .token .now) _ (sym (c .before .before .item-at .ensures) ∙ c .enum-told2 .given .1) refl
 
--- src/token.rt:142:1
 returns-5 : tie.Need-returns-5
 unfolding isToken
 returns-5 c = no-token (c .before .before .before .before .args .sw) (c .before .before .before .before .args .token .now) _ (sym (c .before .before .item-at .ensures) ∙ c .enum-told3 .given .1) refl

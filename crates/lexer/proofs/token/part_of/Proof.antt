@@ -15,39 +15,30 @@ use Rattle.lexer.proofs.token.r_part.Reads as r-part-reads
 use Rattle.lexer.proofs.token.string_part.Reads as string-part-reads
 use Rattle.lexer.proofs.token.word_part.Reads as word-part-reads
 
--- src/token.rt:113:9
 byte-at-requires : tie.Need-byte-at-requires
 byte-at-requires c κs = search needs
 
--- src/token.rt:115:9
 string-part-requires : tie.Need-string-part-requires
 string-part-requires c κs = (keyed-some (c .before .before .before .args .sw) (c .before .before .before .args .token .now) (c .before .before .before .pre), keyed-quote (c .before .before .before .args .sw) (c .before .before .before .args .token .now) (c .before .before .before .pre) (sym (c .before .byte-at .ensures) ∙ c .if1 .taken))
 
--- src/token.rt:115:9
 returns : tie.Need-returns
 returns c = c .string-part .ensures
 
--- src/token.rt:118:9
 b-part-requires : tie.Need-b-part-requires
 b-part-requires c κs = (sym (c .before .before .byte-at .ensures) ∙ c .if2 .taken, keyed-b (c .before .before .before .before .args .sw) (c .before .before .before .before .args .token .now) (c .before .before .before .before .pre) (sym (c .before .before .byte-at .ensures) ∙ c .if2 .taken))
 
--- src/token.rt:118:9
 returns-2 : tie.Need-returns-2
 returns-2 c = c .b-part .ensures
 
--- src/token.rt:121:9
 r-part-requires : tie.Need-r-part-requires
 r-part-requires c κs = (sym (c .before .before .before .byte-at .ensures) ∙ c .if3 .taken, keyed-r (c .before .before .before .before .before .args .sw) (c .before .before .before .before .before .args .token .now) (c .before .before .before .before .before .pre) (sym (c .before .before .before .byte-at .ensures) ∙ c .if3 .taken))
 
--- src/token.rt:121:9
 returns-3 : tie.Need-returns-3
 returns-3 c = c .r-part .ensures
 
--- src/token.rt:123:5
 word-part-requires : tie.Need-word-part-requires
 word-part-requires c κs = let q : c .before .before .before .byte-at .result ≡ getD (c .before .before .before .before .before .args .token .now) 0 0 = c .before .before .before .byte-at .ensures in let h : getD (c .before .before .before .before .before .args .token .now) 0 0 < 256 = omega arith in keyed-own (c .before .before .before .before .before .args .sw) (c .before .before .before .before .before .args .token .now) (c .before .before .before .before .before .pre) h (λ e. c .before .before .if1 .left (c .before .before .before .byte-at .ensures ∙ e)) (λ e. c .before .if2 .left (c .before .before .before .byte-at .ensures ∙ e)) (λ e. c .if3 .left (c .before .before .before .byte-at .ensures ∙ e))
 
--- src/token.rt:109:1
 returns-4 : tie.Need-returns-4
 returns-4 c = c .word-part .ensures
 

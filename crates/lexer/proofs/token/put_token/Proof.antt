@@ -10,39 +10,30 @@ use Rattle.lexer.proofs.token.is_keyed.Reads as is-keyed-reads
 use Rattle.lexer.proofs.token.part_of.Reads as part-of-reads
 use Rattle.literals.proofs.content.write_content.Reads as write-content-reads
 
--- src/token.rt:162:8
 is-keyed-requires : tie.Need-is-keyed-requires
 is-keyed-requires c κs = search needs
 
--- src/token.rt:163:13
 part-of-requires : tie.Need-part-of-requires
 part-of-requires c κs = keyed-by (c .before .before .before .before .args .sw) (c .before .before .before .before .args .token .now) (sym (c .before .is-keyed .ensures) ∙ c .if1 .taken)
 
--- src/token.rt:167:53
 sub-write-content : tie.Need-sub-write-content
 sub-write-content c = omega arith
 
--- src/token.rt:167:53
 part-write-content-start : tie.Need-part-write-content-start
 part-write-content-start c = omega arith
 
--- src/token.rt:167:53
 part-write-content-end : tie.Need-part-write-content-end
 part-write-content-end c = omega arith
 
--- src/token.rt:167:9
 write-content-requires : tie.Need-write-content-requires
 write-content-requires c κs = search needs
 
--- src/token.rt:167:9
 same-length : tie.Need-same-length
 same-length c = omega arith
 
--- src/token.rt:167:9
 returns : tie.Need-returns
 returns c = rw (← c .before .before .before .before .before .part-of .ensures .holds) (c .before .before .write-content .ensures)
 
--- src/token.rt:159:1
 returns-2 : tie.Need-returns-2
 returns-2 c = no-key _ _ (sym (c .before .is-keyed .ensures) ∙ c .if1 .left)
 

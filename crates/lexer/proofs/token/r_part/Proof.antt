@@ -15,28 +15,22 @@ use Rattle.lexer.proofs.item.opens_raw.Reads as opens-raw-reads
 use Rattle.lexer.proofs.token.raw_part.Reads as raw-part-reads
 use Rattle.lexer.proofs.token.word_part.Reads as word-part-reads
 
--- src/token.rt:100:18
 byte-at-requires : tie.Need-byte-at-requires
 byte-at-requires c κs = search needs
 
--- src/token.rt:100:8
 opens-raw-requires : tie.Need-opens-raw-requires
 opens-raw-requires c κs = search needs
 
--- src/token.rt:101:9
 raw-part-requires : tie.Need-raw-part-requires
 raw-part-requires c κs = let h = there (c .before .before .before .before .args .token .now) 0 114 (c .before .before .before .before .pre .0) (omega arith) in
     (omega arith, r-raw (c .before .before .before .before .args .sw) (c .before .before .before .before .args .token .now) (c .before .before .before .before .pre .1) (c .before .before .before .before .pre .0) (ap (λ (b : ℕ). eqb b 34 || eqb b 35) (sym (c .before .before .byte-at .ensures)) ∙ sym (c .before .opens-raw .ensures) ∙ c .if1 .taken))
 
--- src/token.rt:101:9
 returns : tie.Need-returns
 returns c = c .raw-part .ensures
 
--- src/token.rt:103:5
 word-part-requires : tie.Need-word-part-requires
 word-part-requires c κs = r-word (c .before .before .before .before .args .sw) (c .before .before .before .before .args .token .now) (c .before .before .before .before .pre .1) (c .before .before .before .before .pre .0) (ap (λ (b : ℕ). eqb b 34 || eqb b 35) (sym (c .before .before .byte-at .ensures)) ∙ sym (c .before .opens-raw .ensures) ∙ c .if1 .left)
 
--- src/token.rt:95:1
 returns-2 : tie.Need-returns-2
 returns-2 c = c .word-part .ensures
 

@@ -9,32 +9,25 @@ use Rattle.lexer.proofs.token.raw_part.Lts as lts
 use Rattle.lexer.proofs.runs.run_end.Reads as run-end-reads
 use Rattle.lexer.proofs.token.string_part.Reads as string-part-reads
 
--- src/token.rt:53:16
 add-from : tie.Need-add-from
 add-from c = omega arith
 
--- src/token.rt:54:13
 run-end-requires : tie.Need-run-end-requires
 run-end-requires c κs = search needs
 
--- src/token.rt:54:13
 sub-k : tie.Need-sub-k
 sub-k c = omega arith
 
--- src/token.rt:55:47
 add-string-part : tie.Need-add-string-part
 add-string-part c = omega arith
 
--- src/token.rt:55:47
 add-string-part-2 : tie.Need-add-string-part-2
 add-string-part-2 c = omega arith
 
--- src/token.rt:55:5
 string-part-requires : tie.Need-string-part-requires
 unfolding passes
 string-part-requires c κs = raw-part (c .before .before .args .sw) (c .before .before .args .token .now) (c .before .before .args .istext) (c .before .before .args .head) (c .run-end .result) (c .before .before .pre .0) (c .run-end .ensures) (c .before .before .pre .1)
 
--- src/token.rt:48:1
 returns : tie.Need-returns
 unfolding passes
 returns c = c .string-part .ensures

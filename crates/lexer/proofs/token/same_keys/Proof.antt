@@ -10,28 +10,22 @@ use Rattle.lexer.proofs.token.is_word.Reads as is-word-reads
 use Rattle.lexer.proofs.token.same_parts.Reads as same-parts-reads
 use Rattle.text.proofs.bytes.same_bytes.Reads as same-bytes-reads
 
--- src/token.rt:220:8
 is-word-requires : tie.Need-is-word-requires
 is-word-requires c κs = c .before .before .pre .0
 
--- src/token.rt:221:12
 is-word-requires-2 : tie.Need-is-word-requires-2
 is-word-requires-2 c κs = c .before .before .before .before .pre .1
 
--- src/token.rt:222:13
 same-bytes-requires : tie.Need-same-bytes-requires
 same-bytes-requires c κs = search needs
 
--- src/token.rt:222:13
 returns : tie.Need-returns
 unfolding sameContent
 returns c = c .same-bytes .ensures ∙ sym (λ i. sameContent (c .before .before .before .before .is-word .ensures .own (c .before .before .before .if1 .taken) i) (c .before .before .is-word2 .ensures .own (c .before .if2 .taken) i))
 
--- src/token.rt:225:5
 same-parts-requires : tie.Need-same-parts-requires
 same-parts-requires c κs = (c .before .before .before .before .pre .0, c .before .before .before .before .pre .1)
 
--- src/token.rt:215:1
 returns-2 : tie.Need-returns-2
 returns-2 c = c .same-parts .ensures
 

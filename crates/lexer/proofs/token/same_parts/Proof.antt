@@ -10,43 +10,33 @@ use Rattle.lexer.proofs.token.same_parts.Lts as lts
 use Rattle.lexer.proofs.token.part_of.Reads as part-of-reads
 use Rattle.literals.proofs.compare.same_content.Reads as same-content-reads
 
--- src/token.rt:205:9
 part-of-requires : tie.Need-part-of-requires
 part-of-requires c κs = c .before .before .pre .0
 
--- src/token.rt:206:9
 part-of-requires-2 : tie.Need-part-of-requires-2
 part-of-requires-2 c κs = c .before .before .before .pre .1
 
--- src/token.rt:213:29
 sub-same-content : tie.Need-sub-same-content
 sub-same-content c = omega arith
 
--- src/token.rt:213:29
 part-same-content-start : tie.Need-part-same-content-start
 part-same-content-start c = omega arith
 
--- src/token.rt:213:29
 part-same-content-end : tie.Need-part-same-content-end
 part-same-content-end c = omega arith
 
--- src/token.rt:213:52
 sub-same-content-2 : tie.Need-sub-same-content-2
 sub-same-content-2 c = omega arith
 
--- src/token.rt:213:52
 part-same-content-start-2 : tie.Need-part-same-content-start-2
 part-same-content-start-2 c = omega arith
 
--- src/token.rt:213:52
 part-same-content-end-2 : tie.Need-part-same-content-end-2
 part-same-content-end-2 c = omega arith
 
--- src/token.rt:213:5
 same-content-requires : tie.Need-same-content-requires
 same-content-requires c κs = search needs
 
--- src/token.rt:200:1
 returns : tie.Need-returns
 returns c = c .same-content .ensures ∙ (λ i. sameContent (part-content (c .before .before .before .before .before .before .before .args .sw) (c .before .before .before .before .before .before .before .args .a .now) _ _ _ (c .before .before .before .before .before .before .before .pre .0) (c .before .before .before .before .part-of .ensures .holds) i) (part-content (c .before .before .before .before .before .before .before .args .sw) (c .before .before .before .before .before .before .before .args .b .now) _ _ _ (c .before .before .before .before .before .before .before .pre .1) (c .before .before .before .part-of2 .ensures .holds) i))
 

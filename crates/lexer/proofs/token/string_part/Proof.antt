@@ -7,19 +7,15 @@ use Rattle.lexer.proofs.token.string_part.Tie as tie
 use Rattle.lexer.proofs.token.string_part.Reads as reads
 use Rattle.lexer.proofs.token.string_part.Lts as lts
 
--- src/token.rt:42:15
 add-t7 : tie.Need-add-t7
 add-t7 c = omega arith
 
--- src/token.rt:43:13
 sub-t9 : tie.Need-sub-t9
 sub-t9 c = omega arith
 
--- src/token.rt:43:13
 sub-t10 : tie.Need-sub-t10
 sub-t10 c = let r = string-room (c .args .sw) (c .args .token .now) (c .args .istext) (c .args .body) (c .args .head) (c .args .k) (c .pre .0) (c .pre .1) in omega arith
 
--- src/token.rt:34:1
 returns : tie.Need-returns
 returns c = string-part (c .args .sw) (c .args .token .now) (c .args .istext) (c .args .body) (c .args .head) (c .args .k) (c .pre .0) _ refl (c .pre .1)
 

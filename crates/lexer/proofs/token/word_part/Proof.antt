@@ -6,7 +6,6 @@ use Rattle.lexer.proofs.token.word_part.Tie as tie
 use Rattle.lexer.proofs.token.word_part.Reads as reads
 use Rattle.lexer.proofs.token.word_part.Lts as lts
 
--- src/token.rt:59:1
 returns : tie.Need-returns
 returns c = word-part (c .args .sw) (c .args .token .now) (c .pre)
 

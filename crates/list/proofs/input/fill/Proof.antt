@@ -17,75 +17,57 @@ Inv-loop fd buf₀ n₀ buf n = (n ≤ length buf) × (length buf ≡ length buf
 abbrev μ-loop : tie.MeasureT-loop
 μ-loop fd buf₀ n₀ buf n = length buf - n
 
--- src/input.rt:17:5
 loop-holds : tie.Need-loop-holds Inv-loop μ-loop
 loop-holds c = omega arith
 
--- src/input.rt:18:34
 sub-read : tie.Need-sub-read Inv-loop μ-loop
 sub-read c = omega arith
 
--- src/input.rt:18:34
 part-read-start : tie.Need-part-read-start Inv-loop μ-loop
 part-read-start c = omega arith
 
--- src/input.rt:18:34
 part-read-end : tie.Need-part-read-end Inv-loop μ-loop
 part-read-end c = omega arith
 
--- src/input.rt:18:13
 read-requires : tie.Need-read-requires Inv-loop μ-loop
 read-requires c κs = search needs
 
--- src/input.rt:20:13
 same-length : tie.Need-same-length Inv-loop μ-loop
 same-length c = omega arith
 
--- src/input.rt:20:13
 returns : tie.Need-returns Inv-loop μ-loop
 returns c = (omega arith, sym (length-take-le _ _ (omega arith)))
 
--- src/input.rt:25:35
 sub-count : tie.Need-sub-count Inv-loop μ-loop
 sub-count c = omega arith
 
--- src/input.rt:25:35
 part-count-start : tie.Need-part-count-start Inv-loop μ-loop
 part-count-start c = omega arith
 
--- src/input.rt:25:35
 part-count-end : tie.Need-part-count-end Inv-loop μ-loop
 part-count-end c = omega arith
 
--- src/input.rt:25:13
 count-requires : tie.Need-count-requires Inv-loop μ-loop
 count-requires c κs = search needs
 
--- src/input.rt:27:13
 same-length-2 : tie.Need-same-length-2 Inv-loop μ-loop
 same-length-2 c = omega arith
 
--- src/input.rt:27:13
 returns-2 : tie.Need-returns-2 Inv-loop μ-loop
 returns-2 c = (omega arith, sym (length-take-le _ _ (omega arith)))
 
--- src/input.rt:32:9
 add-n : tie.Need-add-n Inv-loop μ-loop
 add-n c = omega arith
 
--- src/input.rt:17:5
 loop-less : tie.Need-loop-less Inv-loop μ-loop
 loop-less c = omega arith
 
--- src/input.rt:17:5
 loop-again : tie.Need-loop-again Inv-loop μ-loop
 loop-again c = omega arith
 
--- src/input.rt:13:1
 same-length-3 : tie.Need-same-length-3 Inv-loop μ-loop
 same-length-3 c = omega arith
 
--- src/input.rt:13:1
 returns-3 : tie.Need-returns-3 Inv-loop μ-loop
 returns-3 c = (omega arith, sym (length-take-le _ _ (omega arith)))
 

@@ -9,39 +9,30 @@ use Rattle.list.proofs.listing.nodes.Reads as nodes-reads
 use Rattle.list.proofs.listing.refused.Reads as refused-reads
 use Rattle.reader.proofs.read.read.Reads as read-reads
 
--- src/listing.rt:49:22
 slice-aggregate-read : tie.Need-slice-aggregate-read
 slice-aggregate-read c = search needs
 
--- src/listing.rt:49:11
 read-requires : tie.Need-read-requires
 read-requires c κs = search needs
 
--- src/listing.rt:50:24
 enum-known-count : tie.Need-enum-known-count
 enum-known-count c = search needs
 
--- src/listing.rt:50:40
 slice-aggregate-nodes : tie.Need-slice-aggregate-nodes
 slice-aggregate-nodes c = search needs
 
--- src/listing.rt:50:34
 nodes-requires : tie.Need-nodes-requires
 nodes-requires c κs = rows-inside _ _ _ _ _ (c .before .before .count .given .0 .0) (c .before .before .before .before .before .read .ensures .0) (c .before .before .count .given .1) (c .before .before .before .before .before .read .ensures .1)
 
--- src/listing.rt:51:26
 enum-known-number : tie.Need-enum-known-number
 enum-known-number c = search needs
 
--- src/listing.rt:51:44
 refused-requires : tie.Need-refused-requires
 refused-requires c κs = search needs
 
--- src/listing.rt:47:1
 returns : tie.Need-returns
 returns c = search needs
 
--- src/listing.rt:47:1
 returns-2 : tie.Need-returns-2
 returns-2 c = search needs
 

@@ -14,75 +14,57 @@ Inv-loop table count i₀ t5 i = i ≤ count
 abbrev μ-loop : tie.MeasureT-loop
 μ-loop table count i₀ t5 i = count - i
 
--- src/listing.rt:26:5
 loop-holds : tie.Need-loop-holds Inv-loop μ-loop
 loop-holds c = omega arith
 
--- src/listing.rt:27:18
 mul-at : tie.Need-mul-at Inv-loop μ-loop
 mul-at c = omega arith
 
--- src/listing.rt:28:21
 mul-node : tie.Need-mul-node Inv-loop μ-loop
 mul-node c = omega arith
 
--- src/listing.rt:28:21
 shared-slice-read-node : tie.Need-shared-slice-read-node Inv-loop μ-loop
 shared-slice-read-node c = search needs
 
--- src/listing.rt:28:38
 add-node : tie.Need-add-node Inv-loop μ-loop
 add-node c = omega arith
 
--- src/listing.rt:28:32
 mul-node-2 : tie.Need-mul-node-2 Inv-loop μ-loop
 mul-node-2 c = omega arith
 
--- src/listing.rt:28:32
 shared-slice-read-node-2 : tie.Need-shared-slice-read-node-2 Inv-loop μ-loop
 shared-slice-read-node-2 c = search needs
 
--- src/listing.rt:28:53
 add-node-2 : tie.Need-add-node-2 Inv-loop μ-loop
 add-node-2 c = omega arith
 
--- src/listing.rt:28:47
 mul-node-3 : tie.Need-mul-node-3 Inv-loop μ-loop
 mul-node-3 c = omega arith
 
--- src/listing.rt:28:47
 shared-slice-read-node-3 : tie.Need-shared-slice-read-node-3 Inv-loop μ-loop
 shared-slice-read-node-3 c = search needs
 
--- src/listing.rt:28:13
 node-requires : tie.Need-node-requires Inv-loop μ-loop
 node-requires c κs = search needs
 
--- src/listing.rt:29:22
 slice-aggregate-fail : tie.Need-slice-aggregate-fail Inv-loop μ-loop
 slice-aggregate-fail c = omega arith
 
--- src/listing.rt:29:13
 fail-requires : tie.Need-fail-requires Inv-loop μ-loop
 fail-requires c κs = search needs
 
--- src/listing.rt:30:13
 returns : tie.Need-returns Inv-loop μ-loop
 returns c = omega arith
 
--- src/listing.rt:26:9
 add-i : tie.Need-add-i Inv-loop μ-loop
 add-i c = omega arith
 
--- src/listing.rt:26:5
 loop-less : tie.Need-loop-less Inv-loop μ-loop
 loop-less c = omega arith
 
--- src/listing.rt:26:5
 loop-again : tie.Need-loop-again Inv-loop μ-loop
 loop-again c = omega arith
 
--- src/listing.rt:23:1
 returns-2 : tie.Need-returns-2 Inv-loop μ-loop
 returns-2 c = omega arith
 

@@ -14,47 +14,36 @@ Inv-loop a b i₀ i = Alike a b i
 abbrev μ-loop : tie.MeasureT-loop
 μ-loop a b i₀ i = length a - i
 
--- src/compare.rt:89:5
 loop-holds : tie.Need-loop-holds Inv-loop μ-loop
 loop-holds c = alike-start _ _
 
--- src/compare.rt:91:13
 returns : tie.Need-returns Inv-loop μ-loop
 returns c = front-unknown _ _
 
--- src/compare.rt:93:17
 shared-slice-read-x : tie.Need-shared-slice-read-x Inv-loop μ-loop
 shared-slice-read-x c = search needs
 
--- src/compare.rt:94:17
 shared-slice-read-y : tie.Need-shared-slice-read-y Inv-loop μ-loop
 shared-slice-read-y c = search needs
 
--- src/compare.rt:96:13
 returns-2 : tie.Need-returns-2 Inv-loop μ-loop
 returns-2 c = front-unknown _ _
 
--- src/compare.rt:99:13
 returns-3 : tie.Need-returns-3 Inv-loop μ-loop
 returns-3 c = front-unknown _ _
 
--- src/compare.rt:102:13
 returns-4 : tie.Need-returns-4 Inv-loop μ-loop
 returns-4 c = alike-apart (c .before .before .before .before .before .before .before .loop .inv) (omega arith) (omega arith) (c .before .before .if2 .left) (c .before .if3 .left) (c .if4 .taken)
 
--- src/compare.rt:104:9
 add-i : tie.Need-add-i Inv-loop μ-loop
 add-i c = omega arith
 
--- src/compare.rt:89:5
 loop-less : tie.Need-loop-less Inv-loop μ-loop
 loop-less c = omega arith
 
--- src/compare.rt:89:5
 loop-again : tie.Need-loop-again Inv-loop μ-loop
 loop-again c = alike-more (c .before .before .before .before .before .before .before .loop .inv) (omega arith) (omega arith) (c .before .before .if2 .left) (c .before .if3 .left) (c .if4 .left)
 
--- src/compare.rt:85:1
 returns-5 : tie.Need-returns-5 Inv-loop μ-loop
 returns-5 c = front-unknown _ _
 

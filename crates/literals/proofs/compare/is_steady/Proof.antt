@@ -6,35 +6,27 @@ use Rattle.literals.proofs.compare.is_steady.Tie as tie
 use Rattle.literals.proofs.compare.is_steady.Reads as reads
 use Rattle.literals.proofs.compare.is_steady.Lts as lts
 
--- src/compare.rt:77:25
 enum-told : tie.Need-enum-told
 enum-told c = search needs
 
--- src/compare.rt:78:22
 enum-told-2 : tie.Need-enum-told-2
 enum-told-2 c = search needs
 
--- src/compare.rt:79:25
 enum-told-3 : tie.Need-enum-told-3
 enum-told-3 c = search needs
 
--- src/compare.rt:80:23
 enum-told-4 : tie.Need-enum-told-4
 enum-told-4 c = search needs
 
--- src/compare.rt:73:1
 returns : tie.Need-returns
 returns c = steady-quoted (c .enum-told .given .1)
 
--- src/compare.rt:73:1
 returns-2 : tie.Need-returns-2
 returns-2 c = steady-raw (c .enum-told2 .given .1)
 
--- src/compare.rt:73:1
 returns-3 : tie.Need-returns-3
 returns-3 c = steady-unknown _
 
--- src/compare.rt:73:1
 returns-4 : tie.Need-returns-4
 returns-4 c = steady-word (c .enum-told4 .given .1)
 

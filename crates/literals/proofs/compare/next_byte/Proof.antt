@@ -21,91 +21,69 @@ Inv-loop sw s i₀ st₀ few₀ i st few = Walked sw s (cursorAt i₀ st₀ few�
 abbrev μ-loop : tie.MeasureT-loop
 μ-loop sw s i₀ st₀ few₀ i st few = length s - i
 
--- src/compare.rt:37:5
 loop-holds : tie.Need-loop-holds Inv-loop μ-loop
 loop-holds c = walk-start _ _ _ (c .before .pre)
 
--- src/compare.rt:40:20
 enum-told : tie.Need-enum-told Inv-loop μ-loop
 enum-told c = search needs
 
--- src/compare.rt:41:24
 may-end-requires : tie.Need-may-end-requires Inv-loop μ-loop
 may-end-requires c κs = search needs
 
--- src/compare.rt:42:25
 returns : tie.Need-returns Inv-loop μ-loop
 returns c = record { is = walk-end (c .before .before .before .before .before .loop .inv) (c .before .before .before .enum-told .given .1) (omega arith) true (sym (c .before .may-end .ensures) ∙ c .if2 .taken) }
 
--- src/compare.rt:44:21
 returns-2 : tie.Need-returns-2 Inv-loop μ-loop
 returns-2 c = record { is = walk-end (c .before .before .before .before .before .loop .inv) (c .before .before .before .enum-told .given .1) (omega arith) false (sym (c .before .may-end .ensures) ∙ c .if2 .left) }
 
--- src/compare.rt:46:45
 shared-slice-read-decode-step : tie.Need-shared-slice-read-decode-step Inv-loop μ-loop
 shared-slice-read-decode-step c = search needs
 
--- src/compare.rt:46:21
 decode-step-requires : tie.Need-decode-step-requires Inv-loop μ-loop
 decode-step-requires c κs = c .before .before .before .before .loop .inv .sound
 
--- src/compare.rt:49:17
 add-i : tie.Need-add-i Inv-loop μ-loop
 add-i c = omega arith
 
--- src/compare.rt:37:5
 loop-less : tie.Need-loop-less Inv-loop μ-loop
 loop-less c = omega arith
 
--- src/compare.rt:37:5
 loop-again : tie.Need-loop-again Inv-loop μ-loop
 loop-again c = walk-turn (c .before .before .before .before .before .loop .inv) (c .before .before .before .enum-told .given .1) (c .decode-step .result) (omega arith) (c .decode-step .ensures)
 
--- src/compare.rt:51:22
 enum-known-few : tie.Need-enum-known-few Inv-loop μ-loop
 enum-known-few c = search needs
 
--- src/compare.rt:52:39
 cursor-at-requires : tie.Need-cursor-at-requires Inv-loop μ-loop
 cursor-at-requires c κs = search needs
 
--- src/compare.rt:52:17
 returns-3 : tie.Need-returns-3 Inv-loop μ-loop
 returns-3 c = record { is = walk-byte (c .before .before .before .before .loop .inv) _ Zero _ (c .cursor-at .ensures) (first-one (c .before .before .before .before .loop .few) _ (c .before .before .few .given .1)) }
 
--- src/compare.rt:54:22
 enum-known-few-2 : tie.Need-enum-known-few-2 Inv-loop μ-loop
 enum-known-few-2 c = search needs
 
--- src/compare.rt:55:39
 cursor-at-requires-2 : tie.Need-cursor-at-requires-2 Inv-loop μ-loop
 cursor-at-requires-2 c κs = search needs
 
--- src/compare.rt:55:17
 returns-4 : tie.Need-returns-4 Inv-loop μ-loop
 returns-4 c = record { is = walk-byte (c .before .before .before .before .loop .inv) _ (One (c .before .before .few2 .given .0 .1 .0)) _ (c .cursor-at2 .ensures) (first-two (c .before .before .before .before .loop .few) _ _ (c .before .before .few2 .given .1)) }
 
--- src/compare.rt:57:24
 enum-known-few-3 : tie.Need-enum-known-few-3 Inv-loop μ-loop
 enum-known-few-3 c = search needs
 
--- src/compare.rt:58:39
 cursor-at-requires-3 : tie.Need-cursor-at-requires-3 Inv-loop μ-loop
 cursor-at-requires-3 c κs = search needs
 
--- src/compare.rt:58:17
 returns-5 : tie.Need-returns-5 Inv-loop μ-loop
 returns-5 c = record { is = walk-byte (c .before .before .before .before .loop .inv) _ (Two (c .before .before .few3 .given .0 .1 .0) (c .before .before .few3 .given .0 .1 .1 .0)) _ (c .cursor-at3 .ensures) (first-three (c .before .before .before .before .loop .few) _ _ _ (c .before .before .few3 .given .1)) }
 
--- src/compare.rt:60:23
 enum-known-few-4 : tie.Need-enum-known-few-4 Inv-loop μ-loop
 enum-known-few-4 c = search needs
 
--- src/compare.rt:61:39
 cursor-at-requires-4 : tie.Need-cursor-at-requires-4 Inv-loop μ-loop
 cursor-at-requires-4 c κs = search needs
 
--- src/compare.rt:61:17
 returns-6 : tie.Need-returns-6 Inv-loop μ-loop
 returns-6 c = record { is = walk-byte (c .before .before .before .before .loop .inv) _ (Three (c .before .before .few4 .given .0 .1 .0) (c .before .before .few4 .given .0 .1 .1 .0) (c .before .before .few4 .given .0 .1 .1 .1 .0)) _ (c .cursor-at4 .ensures) (first-four (c .before .before .before .before .loop .few) _ _ _ _ (c .before .before .few4 .given .1)) }
 

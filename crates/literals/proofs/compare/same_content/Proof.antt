@@ -18,115 +18,87 @@ Inv-loop sw a b x₀ y₀ x y = Both sw a b x₀ y₀ x y
 abbrev μ-loop : tie.MeasureT-loop
 μ-loop sw a b x₀ y₀ x y = weight a x
 
--- src/compare.rt:126:8
 written-apart-requires : tie.Need-written-apart-requires Inv-loop μ-loop
 written-apart-requires c κs = search needs
 
--- src/compare.rt:127:9
 returns : tie.Need-returns Inv-loop μ-loop
 returns c = apart-not (c .before .written-apart .ensures) (c .if1 .taken) (c .before .before .before .before .args .sw)
 
--- src/compare.rt:129:30
 start-of-requires : tie.Need-start-of-requires Inv-loop μ-loop
 start-of-requires c κs = search needs
 
--- src/compare.rt:129:9
 cursor-at-requires : tie.Need-cursor-at-requires Inv-loop μ-loop
 cursor-at-requires c κs = search needs
 
--- src/compare.rt:130:30
 start-of-requires-2 : tie.Need-start-of-requires-2 Inv-loop μ-loop
 start-of-requires-2 c κs = search needs
 
--- src/compare.rt:130:9
 cursor-at-requires-2 : tie.Need-cursor-at-requires-2 Inv-loop μ-loop
 cursor-at-requires-2 c κs = search needs
 
--- src/compare.rt:131:5
 loop-holds : tie.Need-loop-holds Inv-loop μ-loop
 loop-holds c = both-start (c .before .before .cursor-at .ensures) (c .cursor-at2 .ensures) (c .before .before .before .before .before .before .before .before .args .abody) (c .before .before .before .before .before .before .before .before .args .bbody) (c .before .before .before .start-of .ensures) (c .before .start-of2 .ensures)
 
--- src/compare.rt:132:15
 next-byte-requires : tie.Need-next-byte-requires Inv-loop μ-loop
 next-byte-requires c κs = c .loop .inv .one
 
--- src/compare.rt:133:25
 enum-known-p : tie.Need-enum-known-p Inv-loop μ-loop
 enum-known-p c = search needs
 
--- src/compare.rt:133:40
 next-byte-requires-2 : tie.Need-next-byte-requires-2 Inv-loop μ-loop
 next-byte-requires-2 c κs = c .before .before .before .before .loop .inv .two
 
--- src/compare.rt:134:29
 enum-known-q : tie.Need-enum-known-q Inv-loop μ-loop
 enum-known-q c = search needs
 
--- src/compare.rt:136:25
 returns-2 : tie.Need-returns-2 Inv-loop μ-loop
 returns-2 c = both-differ (c .before .before .before .before .before .before .before .before .before .before .before .before .cursor-at .ensures) (c .before .before .before .before .before .before .before .before .before .before .cursor-at2 .ensures) (c .before .before .before .before .before .before .before .before .before .before .before .before .before .before .before .before .before .before .args .abody) (c .before .before .before .before .before .before .before .before .before .before .before .before .before .before .before .before .before .before .args .bbody) (c .before .before .before .before .before .before .before .before .before .before .before .before .before .start-of .ensures) (c .before .before .before .before .before .before .before .before .before .before .before .start-of2 .ensures) (c .before .before .before .before .before .before .before .before .before .loop .inv) (byte-is (c .before .before .before .before .before .before .p .given .1) (c .before .before .before .before .before .before .before .before .next-byte .ensures)) (byte-is (c .before .before .q .given .1) (c .before .before .before .before .next-byte2 .ensures)) (c .if2 .taken)
 
--- src/compare.rt:131:5
 loop-less : tie.Need-loop-less Inv-loop μ-loop
 loop-less c = let E = byte-is (c .before .before .before .before .before .before .p .given .1) (c .before .before .before .before .before .before .before .before .next-byte .ensures) in omega arith
 
--- src/compare.rt:131:5
 loop-again : tie.Need-loop-again Inv-loop μ-loop
 loop-again c = both-on (c .before .before .before .before .before .before .before .before .before .loop .inv) (byte-is (c .before .before .before .before .before .before .p .given .1) (c .before .before .before .before .before .before .before .before .next-byte .ensures)) (byte-is (c .before .before .q .given .1) (c .before .before .before .before .next-byte2 .ensures)) (c .if2 .left)
 
--- src/compare.rt:142:21
 enum-told : tie.Need-enum-told Inv-loop μ-loop
 enum-told c = search needs
 
--- src/compare.rt:142:21
 returns-3 : tie.Need-returns-3 Inv-loop μ-loop
 returns-3 c = both-long (c .before .before .before .before .before .before .before .before .before .before .cursor-at .ensures) (c .before .before .before .before .before .before .before .before .cursor-at2 .ensures) (c .before .before .before .before .before .before .before .before .before .before .before .before .before .before .before .before .args .abody) (c .before .before .before .before .before .before .before .before .before .before .before .before .before .before .before .before .args .bbody) (c .before .before .before .before .before .before .before .before .before .before .before .start-of .ensures) (c .before .before .before .before .before .before .before .before .before .start-of2 .ensures) (c .before .before .before .before .before .before .before .loop .inv) (byte-is (c .before .before .before .before .p .given .1) (c .before .before .before .before .before .before .next-byte .ensures)) (end-is (c .enum-told .given .1) (c .before .before .next-byte2 .ensures))
 
--- src/compare.rt:145:21
 enum-told-2 : tie.Need-enum-told-2 Inv-loop μ-loop
 enum-told-2 c = search needs
 
--- src/compare.rt:145:21
 returns-4 : tie.Need-returns-4 Inv-loop μ-loop
 returns-4 c = both-bad-2 (c .before .before .before .before .before .before .before .before .before .before .cursor-at .ensures) (c .before .before .before .before .before .before .before .before .cursor-at2 .ensures) (c .before .before .before .before .before .before .before .before .before .before .before .before .before .before .before .before .args .abody) (c .before .before .before .before .before .before .before .before .before .before .before .before .before .before .before .before .args .bbody) (c .before .before .before .before .before .before .before .before .before .before .before .start-of .ensures) (c .before .before .before .before .before .before .before .before .before .start-of2 .ensures) (c .before .before .before .before .before .before .before .loop .inv) (bad-is (c .enum-told2 .given .1) (c .before .before .next-byte2 .ensures))
 
--- src/compare.rt:148:33
 enum-told-3 : tie.Need-enum-told-3 Inv-loop μ-loop
 enum-told-3 c = search needs
 
--- src/compare.rt:148:33
 next-byte-requires-3 : tie.Need-next-byte-requires-3 Inv-loop μ-loop
 next-byte-requires-3 c κs = c .before .before .before .loop .inv .two
 
--- src/compare.rt:150:21
 enum-told-4 : tie.Need-enum-told-4 Inv-loop μ-loop
 enum-told-4 c = search needs
 
--- src/compare.rt:150:21
 returns-5 : tie.Need-returns-5 Inv-loop μ-loop
 returns-5 c = both-short (c .before .before .before .before .before .before .before .before .before .cursor-at .ensures) (c .before .before .before .before .before .before .before .cursor-at2 .ensures) (c .before .before .before .before .before .before .before .before .before .before .before .before .before .before .before .args .abody) (c .before .before .before .before .before .before .before .before .before .before .before .before .before .before .before .args .bbody) (c .before .before .before .before .before .before .before .before .before .before .start-of .ensures) (c .before .before .before .before .before .before .before .before .start-of2 .ensures) (c .before .before .before .before .before .before .loop .inv) (end-is (c .before .before .before .enum-told3 .given .1) (c .before .before .before .before .before .next-byte .ensures)) (byte-is (c .enum-told4 .given .1) (c .before .before .next-byte3 .ensures))
 
--- src/compare.rt:153:21
 enum-told-5 : tie.Need-enum-told-5 Inv-loop μ-loop
 enum-told-5 c = search needs
 
--- src/compare.rt:153:21
 returns-6 : tie.Need-returns-6 Inv-loop μ-loop
 returns-6 c = both-end (c .before .before .before .before .before .before .before .before .before .cursor-at .ensures) (c .before .before .before .before .before .before .before .cursor-at2 .ensures) (c .before .before .before .before .before .before .before .before .before .before .before .before .before .before .before .args .abody) (c .before .before .before .before .before .before .before .before .before .before .before .before .before .before .before .args .bbody) (c .before .before .before .before .before .before .before .before .before .before .start-of .ensures) (c .before .before .before .before .before .before .before .before .start-of2 .ensures) (c .before .before .before .before .before .before .loop .inv) (end-is (c .before .before .before .enum-told3 .given .1) (c .before .before .before .before .before .next-byte .ensures)) (end-is (c .enum-told5 .given .1) (c .before .before .next-byte3 .ensures))
 
--- src/compare.rt:156:21
 enum-told-6 : tie.Need-enum-told-6 Inv-loop μ-loop
 enum-told-6 c = search needs
 
--- src/compare.rt:156:21
 returns-7 : tie.Need-returns-7 Inv-loop μ-loop
 returns-7 c = both-bad-2 (c .before .before .before .before .before .before .before .before .before .cursor-at .ensures) (c .before .before .before .before .before .before .before .cursor-at2 .ensures) (c .before .before .before .before .before .before .before .before .before .before .before .before .before .before .before .args .abody) (c .before .before .before .before .before .before .before .before .before .before .before .before .before .before .before .args .bbody) (c .before .before .before .before .before .before .before .before .before .before .start-of .ensures) (c .before .before .before .before .before .before .before .before .start-of2 .ensures) (c .before .before .before .before .before .before .loop .inv) (bad-is (c .enum-told6 .given .1) (c .before .before .next-byte3 .ensures))
 
--- src/compare.rt:160:17
 enum-told-7 : tie.Need-enum-told-7 Inv-loop μ-loop
 enum-told-7 c = search needs
 
--- src/compare.rt:160:17
 returns-8 : tie.Need-returns-8 Inv-loop μ-loop
 returns-8 c = both-bad (c .before .before .before .before .before .before .cursor-at .ensures) (c .before .before .before .before .cursor-at2 .ensures) (c .before .before .before .before .before .before .before .before .before .before .before .before .args .abody) (c .before .before .before .before .before .before .before .before .before .before .before .before .args .bbody) (c .before .before .before .before .before .before .before .start-of .ensures) (c .before .before .before .before .before .start-of2 .ensures) (c .before .before .before .loop .inv) (bad-is (c .enum-told7 .given .1) (c .before .before .next-byte .ensures))
 

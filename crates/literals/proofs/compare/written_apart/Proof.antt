@@ -8,27 +8,21 @@ use Rattle.literals.proofs.compare.written_apart.Lts as lts
 use Rattle.literals.proofs.compare.front_apart.Reads as front-apart-reads
 use Rattle.literals.proofs.compare.is_steady.Reads as is-steady-reads
 
--- src/compare.rt:114:8
 is-steady-requires : tie.Need-is-steady-requires
 is-steady-requires c κs = search needs
 
--- src/compare.rt:115:12
 is-steady-requires-2 : tie.Need-is-steady-requires-2
 is-steady-requires-2 c κs = search needs
 
--- src/compare.rt:116:13
 front-apart-requires : tie.Need-front-apart-requires
 front-apart-requires c κs = search needs
 
--- src/compare.rt:116:13
 returns : tie.Need-returns
 returns c = apart-front (c .before .before .before .before .is-steady .ensures) (c .before .before .before .if1 .taken) (c .before .before .is-steady2 .ensures) (c .before .if2 .taken) (c .front-apart .ensures)
 
--- src/compare.rt:111:1
 returns-2 : tie.Need-returns-2
 returns-2 c = apart-unknown _ _ _ _
 
--- src/compare.rt:111:1
 returns-3 : tie.Need-returns-3
 returns-3 c = apart-unknown _ _ _ _
 

@@ -18,51 +18,39 @@ Inv-loop sw s out₀ st₀ k₀ i₀ out st k i = Filled sw st₀ s out₀ out s
 abbrev μ-loop : tie.MeasureT-loop
 μ-loop sw s out₀ st₀ k₀ i₀ out st k i = length s - i
 
--- src/content.rt:58:9
 start-of-requires : tie.Need-start-of-requires Inv-loop μ-loop
 start-of-requires c κs = search needs
 
--- src/content.rt:61:5
 loop-holds : tie.Need-loop-holds Inv-loop μ-loop
 loop-holds c = fill-start _ (c .before .before .before .args .body) _ _ _ (c .start-of .ensures) (c .before .before .before .pre)
 
--- src/content.rt:62:37
 shared-slice-read-decode-step : tie.Need-shared-slice-read-decode-step Inv-loop μ-loop
 shared-slice-read-decode-step c = search needs
 
--- src/content.rt:62:13
 decode-step-requires : tie.Need-decode-step-requires Inv-loop μ-loop
 decode-step-requires c κs = c .before .before .loop .inv .sound
 
--- src/content.rt:65:9
 put-few-requires : tie.Need-put-few-requires Inv-loop μ-loop
 put-few-requires c κs = fill-room (c .before .before .before .before .loop .inv) (c .before .decode-step .result) (omega arith) (c .before .decode-step .ensures)
 
--- src/content.rt:66:14
 few-len-requires : tie.Need-few-len-requires Inv-loop μ-loop
 few-len-requires c κs = search needs
 
--- src/content.rt:66:9
 add-k : tie.Need-add-k Inv-loop μ-loop
 add-k c = let r = fill-room (c .before .before .before .before .before .before .before .before .loop .inv) (c .before .before .before .before .before .decode-step .result) (omega arith) (c .before .before .before .before .before .decode-step .ensures) in omega arith
 
--- src/content.rt:67:9
 add-i : tie.Need-add-i Inv-loop μ-loop
 add-i c = omega arith
 
--- src/content.rt:61:5
 loop-less : tie.Need-loop-less Inv-loop μ-loop
 loop-less c = omega arith
 
--- src/content.rt:61:5
 loop-again : tie.Need-loop-again Inv-loop μ-loop
 loop-again c = fill-turn (c .before .before .before .before .before .before .before .before .loop .inv) (c .before .before .before .before .before .decode-step .result) (omega arith) (c .before .before .before .before .before .decode-step .ensures) _ _ (c .before .before .before .put-few .ensures) (c .few-len .ensures)
 
--- src/content.rt:54:1
 same-length : tie.Need-same-length Inv-loop μ-loop
 same-length c = c .before .loop .inv .long
 
--- src/content.rt:54:1
 returns : tie.Need-returns Inv-loop μ-loop
 returns c = fill-end (c .before .loop .inv) (c .before .before .before .before .before .args .body) (c .before .before .start-of .ensures) (omega arith)
 

@@ -23,71 +23,54 @@ Inv-loop sw text s from st₀ u₀ n₀ i₀ st u n i = Tallied sw text st₀ s 
 abbrev μ-loop : tie.MeasureT-loop
 μ-loop sw text s from st₀ u₀ n₀ i₀ st u n i = length s - i
 
--- src/content.rt:72:9
 written-front-requires : tie.Need-written-front-requires Inv-loop μ-loop
 written-front-requires c κs = search needs
 
--- src/content.rt:73:9
 start-of-requires : tie.Need-start-of-requires Inv-loop μ-loop
 start-of-requires c κs = search needs
 
--- src/content.rt:77:5
 loop-holds : tie.Need-loop-holds Inv-loop μ-loop
 loop-holds c = tally-skip _ _ (c .before .before .before .args .body) _ _ (c .start-of .ensures) _ (c .before .written-front .ensures)
 
--- src/content.rt:78:37
 shared-slice-read-decode-step : tie.Need-shared-slice-read-decode-step Inv-loop μ-loop
 shared-slice-read-decode-step c = search needs
 
--- src/content.rt:78:13
 decode-step-requires : tie.Need-decode-step-requires Inv-loop μ-loop
 decode-step-requires c κs = c .before .before .loop .inv .sound
 
--- src/content.rt:81:14
 few-len-requires : tie.Need-few-len-requires Inv-loop μ-loop
 few-len-requires c κs = search needs
 
--- src/content.rt:81:9
 add-n : tie.Need-add-n Inv-loop μ-loop
 add-n c = let r = tally-room (c .before .before .before .before .loop .inv) (c .before .decode-step .result) (c .before .decode-step .ensures) in omega arith
 
--- src/content.rt:82:9
 feed-text-requires : tie.Need-feed-text-requires Inv-loop μ-loop
 feed-text-requires c κs = let A = c .before .before .before .before .loop .inv in omega arith
 
--- src/content.rt:83:9
 add-i : tie.Need-add-i Inv-loop μ-loop
 add-i c = omega arith
 
--- src/content.rt:77:5
 loop-less : tie.Need-loop-less Inv-loop μ-loop
 loop-less c = omega arith
 
--- src/content.rt:77:5
 loop-again : tie.Need-loop-again Inv-loop μ-loop
 loop-again c = tally-turn (c .before .before .before .before .before .loop .inv) (c .before .before .decode-step .result) (c .feed-text .result) (c .before .few-len .result) (omega arith) (c .before .before .decode-step .ensures) (c .feed-text .ensures) (c .before .few-len .ensures)
 
--- src/content.rt:85:8
 may-end-requires : tie.Need-may-end-requires Inv-loop μ-loop
 may-end-requires c κs = search needs
 
--- src/content.rt:87:16
 is-whole-requires : tie.Need-is-whole-requires Inv-loop μ-loop
 is-whole-requires c κs = search needs
 
--- src/content.rt:88:17
 returns : tie.Need-returns Inv-loop μ-loop
 returns c = tally-text (c .before .before .before .before .before .before .loop .inv) (c .before .before .before .before .before .before .before .before .before .before .args .body) (c .before .before .before .before .before .before .before .start-of .ensures) (omega arith) (sym (c .before .before .before .before .may-end .ensures) ∙ c .before .before .before .if1 .taken) (c .before .before .if2 .taken) true (sym (c .before .is-whole .ensures) ∙ c .if3 .taken)
 
--- src/content.rt:90:13
 returns-2 : tie.Need-returns-2 Inv-loop μ-loop
 returns-2 c = tally-text (c .before .before .before .before .before .before .loop .inv) (c .before .before .before .before .before .before .before .before .before .before .args .body) (c .before .before .before .before .before .before .before .start-of .ensures) (omega arith) (sym (c .before .before .before .before .may-end .ensures) ∙ c .before .before .before .if1 .taken) (c .before .before .if2 .taken) false (sym (c .before .is-whole .ensures) ∙ c .if3 .left)
 
--- src/content.rt:92:9
 returns-3 : tie.Need-returns-3 Inv-loop μ-loop
 returns-3 c = tally-bytes (c .before .before .before .before .loop .inv) (c .before .before .before .before .before .before .before .before .args .body) (c .before .before .before .before .before .start-of .ensures) (omega arith) (sym (c .before .before .may-end .ensures) ∙ c .before .if1 .taken) (c .if2 .left)
 
--- src/content.rt:69:1
 returns-4 : tie.Need-returns-4 Inv-loop μ-loop
 returns-4 c = tally-cut (c .before .before .before .loop .inv) (c .before .before .before .before .before .before .before .args .body) (c .before .before .before .before .start-of .ensures) (omega arith) (sym (c .before .may-end .ensures) ∙ c .if1 .left)
 

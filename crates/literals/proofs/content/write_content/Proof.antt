@@ -13,35 +13,27 @@ use Rattle.literals.proofs.content.write_content.Lts as lts
 use Rattle.literals.proofs.content.fill_front.Reads as fill-front-reads
 use Rattle.literals.proofs.content.measure_content.Reads as measure-content-reads
 
--- src/content.rt:75:11
 measure-content-requires : tie.Need-measure-content-requires
 measure-content-requires c κs = search needs
 
--- src/content.rt:76:29
 enum-told : tie.Need-enum-told
 enum-told c = search needs
 
--- src/content.rt:77:25
 enum-known-n : tie.Need-enum-known-n
 enum-known-n c = search needs
 
--- src/content.rt:79:17
 returns : tie.Need-returns
 returns c = fit-not (c .before .before .before .before .before .before .before .args .out .now) (contentOf (c .before .before .before .before .before .before .before .args .sw) (c .before .before .before .before .before .before .before .args .text) (c .before .before .before .before .before .before .before .args .body) (c .before .before .before .before .before .before .before .args .s .now)) (c .before .before .n .given .0 .0) (sym (c .before .before .before .before .measure-content .ensures) ∙ c .before .before .n .given .1) (omega arith)
 
--- src/content.rt:81:13
 fill-front-requires : tie.Need-fill-front-requires
 fill-front-requires c κs = fit-content (c .before .before .before .before .before .before .before .before .args .out .now) (c .before .before .before .before .before .before .before .before .args .sw) (c .before .before .before .before .before .before .before .before .args .text) (c .before .before .before .before .before .before .before .before .args .body) (c .before .before .before .before .before .before .before .before .args .s .now) (c .before .before .before .n .given .0 .0) (sym (c .before .before .before .before .before .measure-content .ensures) ∙ c .before .before .before .n .given .1) (omega arith)
 
--- src/content.rt:72:1
 returns-2 : tie.Need-returns-2
 returns-2 c = fit-refused (c .before .before .before .before .before .args .out .now) (contentOf (c .before .before .before .before .before .args .sw) (c .before .before .before .before .before .args .text) (c .before .before .before .before .before .args .body) (c .before .before .before .before .before .args .s .now)) (sym (c .before .before .measure-content .ensures) ∙ c .enum-told .given .1)
 
--- src/content.rt:72:1
 same-length : tie.Need-same-length
 same-length c = search needs
 
--- src/content.rt:72:1
 returns-3 : tie.Need-returns-3
 returns-3 c = (
   fit-bytes (c .before .before .before .before .before .before .before .before .before .before .before .args .out .now) (contentOf (c .before .before .before .before .before .before .before .before .before .before .before .args .sw) (c .before .before .before .before .before .before .before .before .before .before .before .args .text) (c .before .before .before .before .before .before .before .before .before .before .before .args .body) (c .before .before .before .before .before .before .before .before .before .before .before .args .s .now)) (c .before .before .before .before .before .before .n .given .0 .0) (sym (c .before .before .before .before .before .before .before .before .measure-content .ensures) ∙ c .before .before .before .before .before .before .n .given .1) (omega arith),

@@ -7,47 +7,36 @@ use Rattle.literals.proofs.content.written_front.Reads as reads
 use Rattle.literals.proofs.content.written_front.Lts as lts
 use Rattle.literals.proofs.content.plain_front.Reads as plain-front-reads
 
--- src/content.rt:60:25
 enum-told : tie.Need-enum-told
 enum-told c = search needs
 
--- src/content.rt:60:25
 plain-front-requires : tie.Need-plain-front-requires
 plain-front-requires c κs = search needs
 
--- src/content.rt:61:22
 enum-told-2 : tie.Need-enum-told-2
 enum-told-2 c = search needs
 
--- src/content.rt:61:22
 plain-front-requires-2 : tie.Need-plain-front-requires-2
 plain-front-requires-2 c κs = search needs
 
--- src/content.rt:62:25
 enum-told-3 : tie.Need-enum-told-3
 enum-told-3 c = search needs
 
--- src/content.rt:63:23
 enum-told-4 : tie.Need-enum-told-4
 enum-told-4 c = search needs
 
--- src/content.rt:63:23
 plain-front-requires-3 : tie.Need-plain-front-requires-3
 plain-front-requires-3 c κs = search needs
 
--- src/content.rt:56:1
 returns : tie.Need-returns
 returns c = written-quoted (c .before .enum-told .given .1) (c .plain-front .ensures)
 
--- src/content.rt:56:1
 returns-2 : tie.Need-returns-2
 returns-2 c = written-raw (c .before .enum-told2 .given .1) (c .plain-front2 .ensures)
 
--- src/content.rt:56:1
 returns-3 : tie.Need-returns-3
 returns-3 c = written-none _ _
 
--- src/content.rt:56:1
 returns-4 : tie.Need-returns-4
 returns-4 c = written-word (c .before .enum-told4 .given .1) (c .plain-front3 .ensures)
 

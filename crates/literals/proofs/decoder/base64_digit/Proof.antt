@@ -10,62 +10,48 @@ use Rattle.literals.proofs.decoder.base64_digit.Lts as lts
 use Rattle.literals.proofs.decoder.silent.Reads as silent-reads
 use Rattle.literals.proofs.decoder.single.Reads as single-reads
 
--- src/decoder.rt:300:9
 silent-requires : tie.Need-silent-requires
 silent-requires c κs = search needs
 
--- src/decoder.rt:300:9
 returns : tie.Need-returns
 unfolding base64Digit
 returns c = rw (c .before .if1 .taken) (c .silent .ensures)
 
--- src/decoder.rt:303:63
 mul-single : tie.Need-mul-single
 mul-single c = let r = bits-one (c .before .before .args .q) (c .if2 .taken) in omega arith
 
--- src/decoder.rt:303:63
 add-single : tie.Need-add-single
 add-single c = let r = bits-one (c .before .before .args .q) (c .if2 .taken) in omega arith
 
--- src/decoder.rt:303:9
 single-requires : tie.Need-single-requires
 single-requires c κs = search needs
 
--- src/decoder.rt:303:9
 returns-2 : tie.Need-returns-2
 unfolding base64Digit
 returns-2 c = rw (c .before .if2 .taken) (c .single .ensures)
 
--- src/decoder.rt:306:62
 mul-single-2 : tie.Need-mul-single-2
 mul-single-2 c = let r = bits-two (c .before .before .before .args .q) (c .if3 .taken) in omega arith
 
--- src/decoder.rt:306:62
 add-single-2 : tie.Need-add-single-2
 add-single-2 c = let r = bits-two (c .before .before .before .args .q) (c .if3 .taken) in omega arith
 
--- src/decoder.rt:306:9
 single-requires-2 : tie.Need-single-requires-2
 single-requires-2 c κs = search needs
 
--- src/decoder.rt:306:9
 returns-3 : tie.Need-returns-3
 unfolding base64Digit
 returns-3 c = rw (c .before .if3 .taken) (c .single2 .ensures)
 
--- src/decoder.rt:308:47
 mul-single-3 : tie.Need-mul-single-3
 mul-single-3 c = let r = bits-last (c .before .before .before .args .q) (omega arith) in omega arith
 
--- src/decoder.rt:308:47
 add-single-3 : tie.Need-add-single-3
 add-single-3 c = let r = bits-last (c .before .before .before .args .q) (omega arith) in omega arith
 
--- src/decoder.rt:308:5
 single-requires-3 : tie.Need-single-requires-3
 single-requires-3 c κs = search needs
 
--- src/decoder.rt:295:1
 returns-4 : tie.Need-returns-4
 returns-4 c = c .single3 .ensures ∙ base64-last _ _ _ (omega arith)
 

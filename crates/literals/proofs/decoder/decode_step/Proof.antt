@@ -14,108 +14,84 @@ use Rattle.literals.proofs.decoder.raw_step.Reads as raw-step-reads
 use Rattle.literals.proofs.decoder.silent.Reads as silent-reads
 use Rattle.literals.proofs.decoder.single.Reads as single-reads
 
--- src/decoder.rt:378:27
 enum-told : tie.Need-enum-told
 enum-told c = search needs
 
--- src/decoder.rt:378:27
 plain-step-requires : tie.Need-plain-step-requires
 plain-step-requires c κs = search needs
 
--- src/decoder.rt:379:28
 enum-told-2 : tie.Need-enum-told-2
 enum-told-2 c = search needs
 
--- src/decoder.rt:379:28
 escape-step-requires : tie.Need-escape-step-requires
 escape-step-requires c κs = search needs
 
--- src/decoder.rt:380:24
 enum-known-st : tie.Need-enum-known-st
 enum-known-st c = search needs
 
--- src/decoder.rt:380:43
 hex-step-requires : tie.Need-hex-step-requires
 unfolding decodeStep Sound
 hex-step-requires c κs = rw (c .before .st .given .1) at (c .before .before .before .pre)
 
--- src/decoder.rt:381:30
 enum-told-3 : tie.Need-enum-told-3
 enum-told-3 c = search needs
 
--- src/decoder.rt:381:30
 raw-step-requires : tie.Need-raw-step-requires
 raw-step-requires c κs = search needs
 
--- src/decoder.rt:382:36
 enum-told-4 : tie.Need-enum-told-4
 enum-told-4 c = search needs
 
--- src/decoder.rt:382:29
 single-requires : tie.Need-single-requires
 single-requires c κs = search needs
 
--- src/decoder.rt:383:27
 enum-known-st-2 : tie.Need-enum-known-st-2
 enum-known-st-2 c = search needs
 
--- src/decoder.rt:383:40
 digits-step-requires : tie.Need-digits-step-requires
 unfolding decodeStep Sound
 digits-step-requires c κs = rw (c .before .st2 .given .1) at (c .before .before .before .pre)
 
--- src/decoder.rt:384:25
 enum-known-st-3 : tie.Need-enum-known-st-3
 enum-known-st-3 c = search needs
 
--- src/decoder.rt:384:35
 pads-step-requires : tie.Need-pads-step-requires
 pads-step-requires c κs = search needs
 
--- src/decoder.rt:385:32
 enum-told-5 : tie.Need-enum-told-5
 enum-told-5 c = search needs
 
--- src/decoder.rt:385:25
 silent-requires : tie.Need-silent-requires
 silent-requires c κs = search needs
 
--- src/decoder.rt:373:1
 returns : tie.Need-returns
 unfolding decodeStep Sound
 returns c = rw (c .before .enum-told .given .1) (c .plain-step .ensures)
 
--- src/decoder.rt:373:1
 returns-2 : tie.Need-returns-2
 unfolding decodeStep Sound
 returns-2 c = rw (c .before .enum-told2 .given .1) (c .escape-step .ensures)
 
--- src/decoder.rt:373:1
 returns-3 : tie.Need-returns-3
 unfolding decodeStep Sound
 returns-3 c = rw (c .before .before .st .given .1) (c .hex-step .ensures)
 
--- src/decoder.rt:373:1
 returns-4 : tie.Need-returns-4
 unfolding decodeStep Sound
 returns-4 c = rw (c .before .enum-told3 .given .1) (c .raw-step .ensures)
 
--- src/decoder.rt:373:1
 returns-5 : tie.Need-returns-5
 unfolding decodeStep Sound
 returns-5 c = rw (c .before .enum-told4 .given .1) (c .single .ensures)
 
--- src/decoder.rt:373:1
 returns-6 : tie.Need-returns-6
 unfolding decodeStep Sound
 returns-6 c = rw (c .before .before .st2 .given .1) (c .digits-step .ensures)
 
--- src/decoder.rt:373:1
 returns-7 : tie.Need-returns-7
 unfolding decodeStep Sound
 returns-7 c = rw (c .before .before .st3 .given .1) (c .pads-step .ensures)
 
--- src/decoder.rt:373:1
 returns-8 : tie.Need-returns-8
 unfolding decodeStep Sound
 returns-8 c = rw (c .before .enum-told5 .given .1) (c .silent .ensures)

@@ -14,63 +14,49 @@ use Rattle.literals.proofs.decoder.sextet.Reads as sextet-reads
 use Rattle.literals.proofs.decoder.silent.Reads as silent-reads
 use Rattle.literals.proofs.decoder.whole_bytes.Reads as whole-bytes-reads
 
--- src/decoder.rt:335:8
 is-space-requires : tie.Need-is-space-requires
 is-space-requires c κs = search needs
 
--- src/decoder.rt:336:9
 silent-requires : tie.Need-silent-requires
 silent-requires c κs = search needs
 
--- src/decoder.rt:336:9
 returns : tie.Need-returns
 unfolding digitsStep
 returns c = rw (← c .before .before .is-space .ensures, c .before .if1 .taken) (c .silent .ensures)
 
--- src/decoder.rt:339:12
 whole-bytes-requires : tie.Need-whole-bytes-requires
 whole-bytes-requires c κs = search needs
 
--- src/decoder.rt:340:30
 sub-pad-step : tie.Need-sub-pad-step
 sub-pad-step c = let r = bits-few (c .before .before .before .before .before .args .q) (c .before .before .before .before .before .args .rest) (c .before .before .before .before .before .pre) in omega arith
 
--- src/decoder.rt:340:13
 pad-step-requires : tie.Need-pad-step-requires
 pad-step-requires c κs = search needs
 
--- src/decoder.rt:340:13
 returns-2 : tie.Need-returns-2
 unfolding digitsStep
 returns-2 c = rw (← c .before .before .before .before .before .is-space .ensures, c .before .before .before .before .if1 .left, eq-eqb _ _ (c .before .before .before .if2 .taken), ← c .before .before .whole-bytes .ensures, c .before .if3 .taken) (c .pad-step .ensures)
 
--- src/decoder.rt:342:9
 silent-requires-2 : tie.Need-silent-requires-2
 silent-requires-2 c κs = search needs
 
--- src/decoder.rt:342:9
 returns-3 : tie.Need-returns-3
 unfolding digitsStep
 returns-3 c = rw (← c .before .before .before .before .before .is-space .ensures, c .before .before .before .before .if1 .left, eq-eqb _ _ (c .before .before .before .if2 .taken), ← c .before .before .whole-bytes .ensures, c .before .if3 .left) (c .silent2 .ensures)
 
--- src/decoder.rt:344:9
 sextet-requires : tie.Need-sextet-requires
 sextet-requires c κs = search needs
 
--- src/decoder.rt:346:9
 base64-digit-requires : tie.Need-base64-digit-requires
 base64-digit-requires c κs = (c .before .before .before .before .before .pre, c .if4 .taken)
 
--- src/decoder.rt:346:9
 returns-4 : tie.Need-returns-4
 unfolding digitsStep
 returns-4 c = rw (← c .before .before .before .before .before .is-space .ensures, c .before .before .before .before .if1 .left, ne-eqb _ _ (c .before .before .before .if2 .left), ← c .before .before .sextet .ensures, lt-ltb _ _ (c .before .if4 .taken)) (c .base64-digit .ensures)
 
--- src/decoder.rt:348:5
 silent-requires-3 : tie.Need-silent-requires-3
 silent-requires-3 c κs = search needs
 
--- src/decoder.rt:331:1
 returns-5 : tie.Need-returns-5
 unfolding digitsStep
 returns-5 c = rw (← c .before .before .before .before .before .is-space .ensures, c .before .before .before .before .if1 .left, ne-eqb _ _ (c .before .before .before .if2 .left), ← c .before .before .sextet .ensures, le-ltb _ _ (c .before .if4 .left)) (c .silent3 .ensures)

@@ -10,24 +10,19 @@ use Rattle.literals.proofs.decoder.hex_digit.Lts as lts
 use Rattle.literals.proofs.decoder.hex_done.Reads as hex-done-reads
 use Rattle.literals.proofs.decoder.silent.Reads as silent-reads
 
--- src/decoder.rt:210:9
 hex-done-requires : tie.Need-hex-done-requires
 hex-done-requires c κs = rw (c .if1 .taken) at (c .before .pre)
 
--- src/decoder.rt:210:9
 returns : tie.Need-returns
 unfolding hexDigit
 returns c = rw (c .before .if1 .taken) (c .hex-done .ensures)
 
--- src/decoder.rt:212:39
 sub-t5 : tie.Need-sub-t5
 sub-t5 c = omega arith
 
--- src/decoder.rt:212:5
 silent-requires : tie.Need-silent-requires
 silent-requires c κs = search needs
 
--- src/decoder.rt:205:1
 returns-2 : tie.Need-returns-2
 returns-2 c = c .silent .ensures ∙ hex-more _ _ _ (omega arith)
 

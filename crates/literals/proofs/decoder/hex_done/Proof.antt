@@ -12,52 +12,41 @@ use Rattle.literals.proofs.decoder.scalar_done.Reads as scalar-done-rea
 use Rattle.literals.proofs.decoder.silent.Reads as silent-reads
 use Rattle.literals.proofs.decoder.single.Reads as single-reads
 
--- src/decoder.rt:190:39
 cast-single : tie.Need-cast-single
 unfolding hexDone isScalar hexRoom
 cast-single c = let h = rw (c .if1 .taken) at (c .before .pre) in omega arith
 
--- src/decoder.rt:190:9
 single-requires : tie.Need-single-requires
 single-requires c κs = search needs
 
--- src/decoder.rt:190:9
 returns : tie.Need-returns
 unfolding hexDone isScalar hexRoom
 returns c = rw (c .before .if1 .taken) (c .single .ensures)
 
--- src/decoder.rt:193:9
 scalar-done-requires : tie.Need-scalar-done-requires
 scalar-done-requires c κs = search needs
 
--- src/decoder.rt:193:9
 returns-2 : tie.Need-returns-2
 unfolding hexDone isScalar hexRoom
 returns-2 c = rw (c .before .before .if1 .left, lt-ltb _ _ (c .before .if2 .taken)) (c .scalar-done .ensures)
 
--- src/decoder.rt:196:9
 silent-requires : tie.Need-silent-requires
 silent-requires c κs = search needs
 
--- src/decoder.rt:196:9
 returns-3 : tie.Need-returns-3
 unfolding hexDone isScalar hexRoom
 returns-3 c = rw (c .before .before .before .if1 .left, le-ltb _ _ (c .before .before .if2 .left), lt-leb _ _ (c .before .if3 .taken)) (c .silent .ensures)
 
--- src/decoder.rt:199:9
 scalar-done-requires-2 : tie.Need-scalar-done-requires-2
 scalar-done-requires-2 c κs = search needs
 
--- src/decoder.rt:199:9
 returns-4 : tie.Need-returns-4
 unfolding hexDone isScalar hexRoom
 returns-4 c = rw (c .before .before .before .before .if1 .left, le-ltb _ _ (c .before .before .before .if2 .left), le-leb _ _ (c .before .before .if3 .left), le-leb _ _ (c .before .if4 .taken)) (c .scalar-done2 .ensures)
 
--- src/decoder.rt:201:5
 silent-requires-2 : tie.Need-silent-requires-2
 silent-requires-2 c κs = search needs
 
--- src/decoder.rt:185:1
 returns-5 : tie.Need-returns-5
 unfolding hexDone isScalar hexRoom
 returns-5 c = rw (c .before .before .before .before .if1 .left, le-ltb _ _ (c .before .before .before .if2 .left), le-leb _ _ (c .before .before .if3 .left), lt-leb _ _ (c .before .if4 .left)) (c .silent2 .ensures)

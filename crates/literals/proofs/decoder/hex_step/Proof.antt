@@ -11,36 +11,28 @@ use Rattle.literals.proofs.decoder.hex_digit.Reads as hex-digit-reads
 use Rattle.literals.proofs.decoder.silent.Reads as silent-reads
 use Rattle.text.proofs.bytes.digit_value.Reads as digit-value-reads
 
--- src/decoder.rt:219:9
 digit-value-requires : tie.Need-digit-value-requires
 digit-value-requires c κs = search needs
 
--- src/decoder.rt:221:38
 mul-hex-digit : tie.Need-mul-hex-digit
 mul-hex-digit c = let r = room-small (c .before .before .args .byte) (c .before .before .args .left) in omega arith
 
--- src/decoder.rt:221:47
 cast-hex-digit : tie.Need-cast-hex-digit
 cast-hex-digit c = omega arith
 
--- src/decoder.rt:221:38
 add-hex-digit : tie.Need-add-hex-digit
 add-hex-digit c = let r = room-small (c .before .before .args .byte) (c .before .before .args .left) in omega arith
 
--- src/decoder.rt:221:9
 hex-digit-requires : tie.Need-hex-digit-requires
 hex-digit-requires c κs = omega arith
 
--- src/decoder.rt:221:9
 returns : tie.Need-returns
 unfolding hexStep
 returns c = rw (← c .before .before .digit-value .ensures, lt-ltb _ _ (c .before .if1 .taken)) (c .hex-digit .ensures)
 
--- src/decoder.rt:223:5
 silent-requires : tie.Need-silent-requires
 silent-requires c κs = search needs
 
--- src/decoder.rt:215:1
 returns-2 : tie.Need-returns-2
 unfolding hexStep
 returns-2 c = rw (← c .before .before .digit-value .ensures, le-ltb _ _ (c .before .if1 .left)) (c .silent .ensures)

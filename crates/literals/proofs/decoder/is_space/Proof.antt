@@ -4,19 +4,15 @@ use Rattle.literals.proofs.decoder.is_space.Tie as tie
 use Rattle.literals.proofs.decoder.is_space.Reads as reads
 use Rattle.literals.proofs.decoder.is_space.Lts as lts
 
--- src/decoder.rt:261:9
 returns : tie.Need-returns
 returns c = rw (eq-eqb _ _ (c .if1 .taken))
 
--- src/decoder.rt:264:9
 returns-2 : tie.Need-returns-2
 returns-2 c = rw (ne-eqb _ _ (c .before .if1 .left), eq-eqb _ _ (c .if2 .taken))
 
--- src/decoder.rt:267:9
 returns-3 : tie.Need-returns-3
 returns-3 c = rw (ne-eqb _ _ (c .before .before .if1 .left), ne-eqb _ _ (c .before .if2 .left), eq-eqb _ _ (c .if3 .taken))
 
--- src/decoder.rt:257:1
 returns-4 : tie.Need-returns-4
 returns-4 c = rw (ne-eqb _ _ (c .before .before .if1 .left), ne-eqb _ _ (c .before .if2 .left), ne-eqb _ _ (c .if3 .left))
 

@@ -7,47 +7,37 @@ use Rattle.literals.proofs.decoder.many_digits.Reads as reads
 use Rattle.literals.proofs.decoder.many_digits.Lts as lts
 use Rattle.literals.proofs.decoder.silent.Reads as silent-reads
 
--- src/decoder.rt:128:9
 silent-requires : tie.Need-silent-requires
 silent-requires c κs = search needs
 
--- src/decoder.rt:128:9
 returns : tie.Need-returns
 unfolding manyDigits
 returns c = rw (eq-eqb _ _ (c .before .if1 .taken)) (c .silent .ensures)
 
--- src/decoder.rt:131:9
 silent-requires-2 : tie.Need-silent-requires-2
 silent-requires-2 c κs = search needs
 
--- src/decoder.rt:131:9
 returns-2 : tie.Need-returns-2
 unfolding manyDigits
 returns-2 c = rw (ne-eqb _ _ (c .before .before .if1 .left), eq-eqb _ _ (c .before .if2 .taken)) (c .silent2 .ensures)
 
--- src/decoder.rt:135:13
 silent-requires-3 : tie.Need-silent-requires-3
 silent-requires-3 c κs = search needs
 
--- src/decoder.rt:135:13
 returns-3 : tie.Need-returns-3
 unfolding manyDigits
 returns-3 c = rw (ne-eqb _ _ (c .before .before .before .before .if1 .left), ne-eqb _ _ (c .before .before .before .if2 .left), c .before .before .if3 .taken, eq-eqb _ _ (c .before .if4 .taken)) (c .silent3 .ensures)
 
--- src/decoder.rt:137:9
 silent-requires-4 : tie.Need-silent-requires-4
 silent-requires-4 c κs = search needs
 
--- src/decoder.rt:137:9
 returns-4 : tie.Need-returns-4
 unfolding manyDigits
 returns-4 c = rw (ne-eqb _ _ (c .before .before .before .before .if1 .left), ne-eqb _ _ (c .before .before .before .if2 .left), c .before .before .if3 .taken, ne-eqb _ _ (c .before .if4 .left)) (c .silent4 .ensures)
 
--- src/decoder.rt:139:5
 silent-requires-5 : tie.Need-silent-requires-5
 silent-requires-5 c κs = search needs
 
--- src/decoder.rt:124:1
 returns-5 : tie.Need-returns-5
 unfolding manyDigits
 returns-5 c = rw (ne-eqb _ _ (c .before .before .before .if1 .left), ne-eqb _ _ (c .before .before .if2 .left), c .before .if3 .left) (c .silent5 .ensures)

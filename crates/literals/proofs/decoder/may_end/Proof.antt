@@ -6,78 +6,61 @@ use Rattle.literals.proofs.decoder.may_end.Reads as reads
 use Rattle.literals.proofs.decoder.may_end.Lts as lts
 use Rattle.literals.proofs.decoder.whole_bytes.Reads as whole-bytes-reads
 
--- src/decoder.rt:394:27
 enum-told : tie.Need-enum-told
 enum-told c = search needs
 
--- src/decoder.rt:395:28
 enum-told-2 : tie.Need-enum-told-2
 enum-told-2 c = search needs
 
--- src/decoder.rt:396:52
 enum-told-3 : tie.Need-enum-told-3
 enum-told-3 c = search needs
 
--- src/decoder.rt:397:30
 enum-told-4 : tie.Need-enum-told-4
 enum-told-4 c = search needs
 
--- src/decoder.rt:398:29
 enum-told-5 : tie.Need-enum-told-5
 enum-told-5 c = search needs
 
--- src/decoder.rt:399:27
 enum-known-st : tie.Need-enum-known-st
 enum-known-st c = search needs
 
--- src/decoder.rt:399:40
 whole-bytes-requires : tie.Need-whole-bytes-requires
 whole-bytes-requires c κs = search needs
 
--- src/decoder.rt:400:38
 enum-told-6 : tie.Need-enum-told-6
 enum-told-6 c = search needs
 
--- src/decoder.rt:401:25
 enum-told-7 : tie.Need-enum-told-7
 enum-told-7 c = search needs
 
--- src/decoder.rt:390:1
 returns : tie.Need-returns
 unfolding mayEnd
 returns c = rw (c .enum-told .given .1)
 
--- src/decoder.rt:390:1
 returns-2 : tie.Need-returns-2
 unfolding mayEnd
 returns-2 c = rw (c .enum-told2 .given .1)
 
--- src/decoder.rt:390:1
 returns-3 : tie.Need-returns-3
 unfolding mayEnd
 returns-3 c = rw (c .enum-told3 .given .1)
 
--- src/decoder.rt:390:1
 returns-4 : tie.Need-returns-4
 unfolding mayEnd
 returns-4 c = rw (c .enum-told4 .given .1)
 
--- src/decoder.rt:390:1
 returns-5 : tie.Need-returns-5
 unfolding mayEnd
 returns-5 c = rw (c .enum-told5 .given .1)
 
--- src/decoder.rt:390:1
 returns-6 : tie.Need-returns-6
 unfolding mayEnd
 returns-6 c = rw (c .before .before .st .given .1) (c .whole-bytes .ensures)
 
--- src/decoder.rt:390:1
 returns-7 : tie.Need-returns-7
 unfolding mayEnd
 returns-7 c = rw (c .enum-told6 .given .1)
 
--- src/decoder.rt:390:1
 returns-8 : tie.Need-returns-8
 unfolding mayEnd
 returns-8 c = rw (c .enum-told7 .given .1)

@@ -8,23 +8,18 @@ use Rattle.literals.proofs.decoder.pad_step.Reads as reads
 use Rattle.literals.proofs.decoder.pad_step.Lts as lts
 use Rattle.literals.proofs.decoder.silent.Reads as silent-reads
 
--- src/decoder.rt:326:9
 silent-requires : tie.Need-silent-requires
 silent-requires c κs = search needs
 
--- src/decoder.rt:326:9
 returns : tie.Need-returns
 returns c = c .silent .ensures ∙ pad-none _ (c .before .if1 .taken)
 
--- src/decoder.rt:328:34
 sub-t4 : tie.Need-sub-t4
 sub-t4 c = omega arith
 
--- src/decoder.rt:328:5
 silent-requires-2 : tie.Need-silent-requires-2
 silent-requires-2 c κs = search needs
 
--- src/decoder.rt:322:1
 returns-2 : tie.Need-returns-2
 returns-2 c = c .silent2 .ensures ∙ pad-more _ (omega arith)
 

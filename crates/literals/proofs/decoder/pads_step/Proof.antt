@@ -9,33 +9,26 @@ use Rattle.literals.proofs.decoder.is_space.Reads as is-space-reads
 use Rattle.literals.proofs.decoder.pad_step.Reads as pad-step-reads
 use Rattle.literals.proofs.decoder.silent.Reads as silent-reads
 
--- src/decoder.rt:354:8
 is-space-requires : tie.Need-is-space-requires
 is-space-requires c κs = search needs
 
--- src/decoder.rt:355:9
 silent-requires : tie.Need-silent-requires
 silent-requires c κs = search needs
 
--- src/decoder.rt:355:9
 returns : tie.Need-returns
 unfolding padsStep
 returns c = rw (← c .before .before .is-space .ensures, c .before .if1 .taken) (c .silent .ensures)
 
--- src/decoder.rt:358:9
 pad-step-requires : tie.Need-pad-step-requires
 pad-step-requires c κs = search needs
 
--- src/decoder.rt:358:9
 returns-2 : tie.Need-returns-2
 unfolding padsStep
 returns-2 c = rw (← c .before .before .before .is-space .ensures, c .before .before .if1 .left, eq-eqb _ _ (c .before .if2 .taken)) (c .pad-step .ensures)
 
--- src/decoder.rt:360:5
 silent-requires-2 : tie.Need-silent-requires-2
 silent-requires-2 c κs = search needs
 
--- src/decoder.rt:351:1
 returns-3 : tie.Need-returns-3
 unfolding padsStep
 returns-3 c = rw (← c .before .before .before .is-space .ensures, c .before .before .if1 .left, ne-eqb _ _ (c .before .if2 .left)) (c .silent2 .ensures)

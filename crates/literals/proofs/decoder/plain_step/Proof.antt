@@ -9,33 +9,26 @@ use Rattle.literals.proofs.decoder.quoted_refuses.Reads as quoted-refus
 use Rattle.literals.proofs.decoder.silent.Reads as silent-reads
 use Rattle.literals.proofs.decoder.single.Reads as single-reads
 
--- src/decoder.rt:115:9
 silent-requires : tie.Need-silent-requires
 silent-requires c κs = search needs
 
--- src/decoder.rt:115:9
 returns : tie.Need-returns
 unfolding plainStep
 returns c = rw (eq-eqb _ _ (c .before .if1 .taken)) (c .silent .ensures)
 
--- src/decoder.rt:117:8
 quoted-refuses-requires : tie.Need-quoted-refuses-requires
 quoted-refuses-requires c κs = search needs
 
--- src/decoder.rt:118:9
 silent-requires-2 : tie.Need-silent-requires-2
 silent-requires-2 c κs = search needs
 
--- src/decoder.rt:118:9
 returns-2 : tie.Need-returns-2
 unfolding plainStep
 returns-2 c = rw (ne-eqb _ _ (c .before .before .before .if1 .left), ← c .before .before .quoted-refuses .ensures, c .before .if2 .taken) (c .silent2 .ensures)
 
--- src/decoder.rt:120:5
 single-requires : tie.Need-single-requires
 single-requires c κs = search needs
 
--- src/decoder.rt:111:1
 returns-3 : tie.Need-returns-3
 unfolding plainStep
 returns-3 c = rw (ne-eqb _ _ (c .before .before .before .if1 .left), ← c .before .before .quoted-refuses .ensures, c .before .if2 .left) (c .single .ensures)

@@ -4,19 +4,15 @@ use Rattle.literals.proofs.decoder.quoted_refuses.Tie as tie
 use Rattle.literals.proofs.decoder.quoted_refuses.Reads as reads
 use Rattle.literals.proofs.decoder.quoted_refuses.Lts as lts
 
--- src/decoder.rt:97:9
 returns : tie.Need-returns
 returns c = quoted-high _ _ (c .if1 .taken)
 
--- src/decoder.rt:100:9
 returns-2 : tie.Need-returns-2
 returns-2 c = quoted-tab _ _ (c .before .if2 .taken)
 
--- src/decoder.rt:103:9
 returns-3 : tie.Need-returns-3
 returns-3 c = quoted-feed _ _ (c .before .if3 .taken)
 
--- src/decoder.rt:93:1
 returns-4 : tie.Need-returns-4
 returns-4 c = quoted-low _ _ (c .before .before .if1 .left) (c .before .if2 .left) (c .if3 .left)
 

@@ -5,25 +5,20 @@ use Rattle.literals.proofs.decoder.raw_refuses.Tie as tie
 use Rattle.literals.proofs.decoder.raw_refuses.Reads as reads
 use Rattle.literals.proofs.decoder.raw_refuses.Lts as lts
 
--- src/decoder.rt:228:9
 returns : tie.Need-returns
 unfolding rawRefuses
 returns c = rw (c .if1 .taken)
 
--- src/decoder.rt:231:9
 returns-2 : tie.Need-returns-2
 returns-2 c = raw-high _ _ (c .if2 .taken) (c .before .if1 .left)
 
--- src/decoder.rt:234:9
 returns-3 : tie.Need-returns-3
 unfolding rawRefuses
 returns-3 c = rw (c .if3 .taken)
 
--- src/decoder.rt:237:9
 returns-4 : tie.Need-returns-4
 returns-4 c = raw-return _ _ (c .before .if4 .taken)
 
--- src/decoder.rt:224:1
 returns-5 : tie.Need-returns-5
 returns-5 c = raw-low _ _ (c .before .before .if2 .left) (c .before .if3 .left) (c .if4 .left)
 

@@ -8,24 +8,19 @@ use Rattle.literals.proofs.decoder.raw_refuses.Reads as raw-refuses-rea
 use Rattle.literals.proofs.decoder.silent.Reads as silent-reads
 use Rattle.literals.proofs.decoder.single.Reads as single-reads
 
--- src/decoder.rt:251:8
 raw-refuses-requires : tie.Need-raw-refuses-requires
 raw-refuses-requires c κs = search needs
 
--- src/decoder.rt:252:9
 silent-requires : tie.Need-silent-requires
 silent-requires c κs = search needs
 
--- src/decoder.rt:252:9
 returns : tie.Need-returns
 unfolding rawStep
 returns c = rw (← c .before .before .raw-refuses .ensures, c .before .if1 .taken) (c .silent .ensures)
 
--- src/decoder.rt:254:5
 single-requires : tie.Need-single-requires
 single-requires c κs = search needs
 
--- src/decoder.rt:248:1
 returns-2 : tie.Need-returns-2
 unfolding rawStep
 returns-2 c = rw (← c .before .before .raw-refuses .ensures, c .before .if1 .left) (c .single .ensures)

@@ -5,11 +5,9 @@ use Rattle.literals.proofs.decoder.scalar_done.Reads as reads
 use Rattle.literals.proofs.decoder.scalar_done.Lts as lts
 use Rattle.text.proofs.utf8.utf8_of.Reads as utf8-of-reads
 
--- src/decoder.rt:180:14
 utf8-of-requires : tie.Need-utf8-of-requires
 utf8-of-requires c κs = search needs
 
--- src/decoder.rt:174:1
 returns : tie.Need-returns
 returns c = rw (c .utf8-of .ensures)
 

@@ -6,59 +6,47 @@ use Rattle.literals.proofs.decoder.sextet.Tie as tie
 use Rattle.literals.proofs.decoder.sextet.Reads as reads
 use Rattle.literals.proofs.decoder.sextet.Lts as lts
 
--- src/decoder.rt:268:9
 returns : tie.Need-returns
 unfolding sextet
 returns c = rw (c .if1 .taken)
 
--- src/decoder.rt:271:9
 returns-2 : tie.Need-returns-2
 unfolding sextet
 returns-2 c = rw (lt-leb 65 (c .before .before .args .b) (omega arith), lt-leb 97 (c .before .before .args .b) (omega arith), lt-leb 48 (c .before .before .args .b) (omega arith), ne-eqb (c .before .before .args .b) 43 (λ e. omega arith), ne-eqb (c .before .before .args .b) 47 (λ e. omega arith))
 
--- src/decoder.rt:274:9
 returns-3 : tie.Need-returns-3
 unfolding sextet
 returns-3 c = rw (c .if3 .taken)
 
--- src/decoder.rt:277:16
 sub-result : tie.Need-sub-result
 sub-result c = omega arith
 
--- src/decoder.rt:277:16
 add-result : tie.Need-add-result
 add-result c = omega arith
 
--- src/decoder.rt:277:9
 returns-4 : tie.Need-returns-4
 unfolding sextet
 returns-4 c = rw (lt-leb 65 (c .before .before .before .before .args .b) (omega arith), lt-leb 97 (c .before .before .before .before .args .b) (omega arith), le-leb 48 (c .before .before .before .before .args .b) (omega arith), le-leb (c .before .before .before .before .args .b) 57 (omega arith))
 
--- src/decoder.rt:280:9
 returns-5 : tie.Need-returns-5
 unfolding sextet
 returns-5 c = rw (lt-leb 65 (c .before .before .before .before .before .args .b) (omega arith), lt-leb 97 (c .before .before .before .before .before .args .b) (omega arith), le-leb 48 (c .before .before .before .before .before .args .b) (omega arith), lt-leb (c .before .before .before .before .before .args .b) 57 (omega arith), ne-eqb (c .before .before .before .before .before .args .b) 43 (λ e. omega arith), ne-eqb (c .before .before .before .before .before .args .b) 47 (λ e. omega arith))
 
--- src/decoder.rt:283:9
 returns-6 : tie.Need-returns-6
 unfolding sextet
 returns-6 c = rw (le-leb 65 (c .before .before .before .before .before .before .args .b) (omega arith), le-leb (c .before .before .before .before .before .before .args .b) 90 (omega arith))
 
--- src/decoder.rt:286:9
 returns-7 : tie.Need-returns-7
 unfolding sextet
 returns-7 c = rw (le-leb 65 (c .before .before .before .before .before .before .before .args .b) (omega arith), lt-leb (c .before .before .before .before .before .before .before .args .b) 90 (omega arith), lt-leb 97 (c .before .before .before .before .before .before .before .args .b) (omega arith), le-leb 48 (c .before .before .before .before .before .before .before .args .b) (omega arith), lt-leb (c .before .before .before .before .before .before .before .args .b) 57 (omega arith), ne-eqb (c .before .before .before .before .before .before .before .args .b) 43 (λ e. omega arith), ne-eqb (c .before .before .before .before .before .before .before .args .b) 47 (λ e. omega arith))
 
--- src/decoder.rt:289:16
 add-result-2 : tie.Need-add-result-2
 add-result-2 c = omega arith
 
--- src/decoder.rt:289:9
 returns-8 : tie.Need-returns-8
 unfolding sextet
 returns-8 c = rw (le-leb 65 (c .before .before .before .before .before .before .before .before .args .b) (omega arith), lt-leb (c .before .before .before .before .before .before .before .before .args .b) 90 (omega arith), le-leb 97 (c .before .before .before .before .before .before .before .before .args .b) (omega arith), le-leb (c .before .before .before .before .before .before .before .before .args .b) 122 (omega arith))
 
--- src/decoder.rt:264:1
 returns-9 : tie.Need-returns-9
 unfolding sextet
 returns-9 c = rw (le-leb 65 (c .before .before .before .before .before .before .before .before .args .b) (omega arith), lt-leb (c .before .before .before .before .before .before .before .before .args .b) 90 (omega arith), le-leb 97 (c .before .before .before .before .before .before .before .before .args .b) (omega arith), lt-leb (c .before .before .before .before .before .before .before .before .args .b) 122 (omega arith), le-leb 48 (c .before .before .before .before .before .before .before .before .args .b) (omega arith), lt-leb (c .before .before .before .before .before .before .before .before .args .b) 57 (omega arith), ne-eqb (c .before .before .before .before .before .before .before .before .args .b) 43 (λ e. omega arith), ne-eqb (c .before .before .before .before .before .before .before .before .args .b) 47 (λ e. omega arith))

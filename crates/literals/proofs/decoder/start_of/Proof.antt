@@ -6,38 +6,30 @@ use Rattle.literals.proofs.decoder.start_of.Tie as tie
 use Rattle.literals.proofs.decoder.start_of.Reads as reads
 use Rattle.literals.proofs.decoder.start_of.Lts as lts
 
--- src/decoder.rt:65:25
 enum-told : tie.Need-enum-told
 enum-told c = search needs
 
--- src/decoder.rt:66:22
 enum-told-2 : tie.Need-enum-told-2
 enum-told-2 c = search needs
 
--- src/decoder.rt:67:25
 enum-told-3 : tie.Need-enum-told-3
 enum-told-3 c = search needs
 
--- src/decoder.rt:68:23
 enum-told-4 : tie.Need-enum-told-4
 enum-told-4 c = search needs
 
--- src/decoder.rt:61:1
 returns : tie.Need-returns
 unfolding startOf
 returns c = sym (ap startOf (c .enum-told .given .1))
 
--- src/decoder.rt:61:1
 returns-2 : tie.Need-returns-2
 unfolding startOf
 returns-2 c = sym (ap startOf (c .enum-told2 .given .1))
 
--- src/decoder.rt:61:1
 returns-3 : tie.Need-returns-3
 unfolding startOf
 returns-3 c = sym (ap startOf (c .enum-told3 .given .1))
 
--- src/decoder.rt:61:1
 returns-4 : tie.Need-returns-4
 unfolding startOf
 returns-4 c = sym (ap startOf (c .enum-told4 .given .1))

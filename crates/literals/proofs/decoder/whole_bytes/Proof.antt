@@ -5,12 +5,10 @@ use Rattle.literals.proofs.decoder.whole_bytes.Tie as tie
 use Rattle.literals.proofs.decoder.whole_bytes.Reads as reads
 use Rattle.literals.proofs.decoder.whole_bytes.Lts as lts
 
--- src/decoder.rt:316:9
 returns : tie.Need-returns
 unfolding wholeBytes
 returns c = rw (eq-eqb _ _ (c .if1 .taken))
 
--- src/decoder.rt:312:1
 returns-2 : tie.Need-returns-2
 unfolding wholeBytes
 returns-2 c = rw (ne-eqb _ _ (c .if1 .left))

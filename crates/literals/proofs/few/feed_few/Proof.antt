@@ -9,87 +9,67 @@ use Rattle.literals.proofs.few.feed_few.Reads as reads
 use Rattle.literals.proofs.few.feed_few.Lts as lts
 use Rattle.text.proofs.utf8.utf8_step.Reads as utf8-step-reads
 
--- src/few.rt:28:22
 enum-told : tie.Need-enum-told
 enum-told c = search needs
 
--- src/few.rt:29:18
 enum-known-f : tie.Need-enum-known-f
 enum-known-f c = search needs
 
--- src/few.rt:29:24
 utf8-step-requires : tie.Need-utf8-step-requires
 utf8-step-requires c κs = search needs
 
--- src/few.rt:30:18
 enum-known-f-2 : tie.Need-enum-known-f-2
 enum-known-f-2 c = search needs
 
--- src/few.rt:31:17
 utf8-step-requires-2 : tie.Need-utf8-step-requires-2
 utf8-step-requires-2 c κs = search needs
 
--- src/few.rt:32:13
 utf8-step-requires-3 : tie.Need-utf8-step-requires-3
 utf8-step-requires-3 c κs = let p = read-next (c .before .before .before .before .args .u) _ _ (c .utf8-step2 .ensures) in omega arith
 
--- src/few.rt:34:20
 enum-known-f-3 : tie.Need-enum-known-f-3
 enum-known-f-3 c = search needs
 
--- src/few.rt:35:17
 utf8-step-requires-4 : tie.Need-utf8-step-requires-4
 utf8-step-requires-4 c κs = search needs
 
--- src/few.rt:36:17
 utf8-step-requires-5 : tie.Need-utf8-step-requires-5
 utf8-step-requires-5 c κs = let p = read-next (c .before .before .before .before .args .u) _ _ (c .utf8-step4 .ensures) in omega arith
 
--- src/few.rt:37:13
 utf8-step-requires-6 : tie.Need-utf8-step-requires-6
 utf8-step-requires-6 c κs = let p = read-next (c .before .before .before .before .before .args .u) _ _ (c .before .utf8-step4 .ensures) in let q = read-next (c .before .utf8-step4 .result) _ _ (c .utf8-step5 .ensures) in omega arith
 
--- src/few.rt:39:19
 enum-known-f-4 : tie.Need-enum-known-f-4
 enum-known-f-4 c = search needs
 
--- src/few.rt:40:17
 utf8-step-requires-7 : tie.Need-utf8-step-requires-7
 utf8-step-requires-7 c κs = search needs
 
--- src/few.rt:41:17
 utf8-step-requires-8 : tie.Need-utf8-step-requires-8
 utf8-step-requires-8 c κs = let p = read-next (c .before .before .before .before .args .u) _ _ (c .utf8-step7 .ensures) in omega arith
 
--- src/few.rt:42:17
 utf8-step-requires-9 : tie.Need-utf8-step-requires-9
 utf8-step-requires-9 c κs = let p = read-next (c .before .before .before .before .before .args .u) _ _ (c .before .utf8-step7 .ensures) in let q = read-next (c .before .utf8-step7 .result) _ _ (c .utf8-step8 .ensures) in omega arith
 
--- src/few.rt:43:13
 utf8-step-requires-10 : tie.Need-utf8-step-requires-10
 utf8-step-requires-10 c κs = let p = read-next (c .before .before .before .before .before .before .args .u) _ _ (c .before .before .utf8-step7 .ensures) in let q = read-next (c .before .before .utf8-step7 .result) _ _ (c .before .utf8-step8 .ensures) in let r = read-next (c .before .utf8-step8 .result) _ _ (c .utf8-step9 .ensures) in omega arith
 
--- src/few.rt:23:1
 returns : tie.Need-returns
 unfolding feed listed
 returns c = rw (c .enum-told .given .1)
 
--- src/few.rt:23:1
 returns-2 : tie.Need-returns-2
 unfolding feed listed
 returns-2 c = rw (c .before .before .f .given .1) (c .utf8-step .ensures)
 
--- src/few.rt:23:1
 returns-3 : tie.Need-returns-3
 unfolding feed listed
 returns-3 c = rw (c .before .before .before .f2 .given .1, ← c .before .utf8-step2 .ensures) (c .utf8-step3 .ensures)
 
--- src/few.rt:23:1
 returns-4 : tie.Need-returns-4
 unfolding feed listed
 returns-4 c = rw (c .before .before .before .before .f3 .given .1, ← c .before .before .utf8-step4 .ensures, ← c .before .utf8-step5 .ensures) (c .utf8-step6 .ensures)
 
--- src/few.rt:23:1
 returns-5 : tie.Need-returns-5
 unfolding feed listed
 returns-5 c = rw (c .before .before .before .before .before .f4 .given .1, ← c .before .before .before .utf8-step7 .ensures, ← c .before .before .utf8-step8 .ensures, ← c .before .utf8-step9 .ensures) (c .utf8-step10 .ensures)

@@ -5,15 +5,12 @@ use Rattle.literals.proofs.few.feed_text.Reads as reads
 use Rattle.literals.proofs.few.feed_text.Lts as lts
 use Rattle.literals.proofs.few.feed_few.Reads as feed-few-reads
 
--- src/few.rt:55:9
 feed-few-requires : tie.Need-feed-few-requires
 feed-few-requires c κs = search needs
 
--- src/few.rt:55:9
 returns : tie.Need-returns
 returns c = rw (c .before .if1 .taken) (c .feed-few .ensures)
 
--- src/few.rt:50:1
 returns-2 : tie.Need-returns-2
 returns-2 c = rw (c .if1 .left)
 

@@ -5,47 +5,37 @@ use Rattle.literals.proofs.few.few_len.Tie as tie
 use Rattle.literals.proofs.few.few_len.Reads as reads
 use Rattle.literals.proofs.few.few_len.Lts as lts
 
--- src/few.rt:14:22
 enum-told : tie.Need-enum-told
 enum-told c = search needs
 
--- src/few.rt:15:24
 enum-told-2 : tie.Need-enum-told-2
 enum-told-2 c = search needs
 
--- src/few.rt:16:27
 enum-told-3 : tie.Need-enum-told-3
 enum-told-3 c = search needs
 
--- src/few.rt:17:32
 enum-told-4 : tie.Need-enum-told-4
 enum-told-4 c = search needs
 
--- src/few.rt:18:34
 enum-told-5 : tie.Need-enum-told-5
 enum-told-5 c = search needs
 
--- src/few.rt:10:1
 returns : tie.Need-returns
 unfolding listed
 returns c = rw (c .enum-told .given .1)
 
--- src/few.rt:10:1
 returns-2 : tie.Need-returns-2
 unfolding listed
 returns-2 c = rw (c .enum-told2 .given .1)
 
--- src/few.rt:10:1
 returns-3 : tie.Need-returns-3
 unfolding listed
 returns-3 c = rw (c .enum-told3 .given .1)
 
--- src/few.rt:10:1
 returns-4 : tie.Need-returns-4
 unfolding listed
 returns-4 c = rw (c .enum-told4 .given .1)
 
--- src/few.rt:10:1
 returns-5 : tie.Need-returns-5
 unfolding listed
 returns-5 c = rw (c .enum-told5 .given .1)

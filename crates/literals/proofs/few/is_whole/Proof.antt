@@ -5,29 +5,23 @@ use Rattle.literals.proofs.few.is_whole.Tie as tie
 use Rattle.literals.proofs.few.is_whole.Reads as reads
 use Rattle.literals.proofs.few.is_whole.Lts as lts
 
--- src/few.rt:53:27
 enum-told : tie.Need-enum-told
 enum-told c = search needs
 
--- src/few.rt:60:14
 enum-told-2 : tie.Need-enum-told-2
 enum-told-2 c = search needs
 
--- src/few.rt:61:28
 enum-told-3 : tie.Need-enum-told-3
 enum-told-3 c = search needs
 
--- src/few.rt:49:1
 returns : tie.Need-returns
 unfolding isWhole
 returns c = rw (c .enum-told .given .1)
 
--- src/few.rt:49:1
 returns-2 : tie.Need-returns-2
 unfolding isWhole
 returns-2 c = rw (c .enum-told2 .given .1)
 
--- src/few.rt:49:1
 returns-3 : tie.Need-returns-3
 unfolding isWhole
 returns-3 c = rw (c .enum-told3 .given .1)

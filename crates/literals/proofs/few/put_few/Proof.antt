@@ -11,139 +11,110 @@ use Rattle.literals.proofs.few.put_few.Lts as lts
 enum-told : tie.Need-enum-told
 enum-told c = search needs
 
--- src/few.rt:72:18
 enum-known-f : tie.Need-enum-known-f
 enum-known-f c = search needs
 
--- src/few.rt:73:13
 slice-write-out : tie.Need-slice-write-out
 unfolding listed
 slice-write-out c = let h = rw (c .before .f .given .1) at (c .before .before .before .pre) in omega arith
 
--- src/few.rt:75:18
 enum-known-f-2 : tie.Need-enum-known-f-2
 enum-known-f-2 c = search needs
 
--- src/few.rt:76:13
 slice-write-out-2 : tie.Need-slice-write-out-2
 unfolding listed
 slice-write-out-2 c = let h = rw (c .before .f2 .given .1) at (c .before .before .before .pre) in omega arith
 
--- src/few.rt:77:17
 add-out : tie.Need-add-out
 unfolding listed
 add-out c = let h = rw (c .before .f2 .given .1) at (c .before .before .before .pre) in omega arith
 
--- src/few.rt:77:13
 slice-write-out-3 : tie.Need-slice-write-out-3
 unfolding listed
 slice-write-out-3 c = let h = rw (c .before .f2 .given .1) at (c .before .before .before .pre) in simp length-set (omega arith)
 
--- src/few.rt:79:20
 enum-known-f-3 : tie.Need-enum-known-f-3
 enum-known-f-3 c = search needs
 
--- src/few.rt:80:13
 slice-write-out-4 : tie.Need-slice-write-out-4
 unfolding listed
 slice-write-out-4 c = let h = rw (c .before .f3 .given .1) at (c .before .before .before .pre) in omega arith
 
--- src/few.rt:81:17
 add-out-2 : tie.Need-add-out-2
 unfolding listed
 add-out-2 c = let h = rw (c .before .f3 .given .1) at (c .before .before .before .pre) in omega arith
 
--- src/few.rt:81:13
 slice-write-out-5 : tie.Need-slice-write-out-5
 unfolding listed
 slice-write-out-5 c = let h = rw (c .before .f3 .given .1) at (c .before .before .before .pre) in simp length-set (omega arith)
 
--- src/few.rt:82:17
 add-out-3 : tie.Need-add-out-3
 unfolding listed
 add-out-3 c = let h = rw (c .before .f3 .given .1) at (c .before .before .before .pre) in omega arith
 
--- src/few.rt:82:13
 slice-write-out-6 : tie.Need-slice-write-out-6
 unfolding listed
 slice-write-out-6 c = let h = rw (c .before .f3 .given .1) at (c .before .before .before .pre) in simp length-set (omega arith)
 
--- src/few.rt:84:19
 enum-known-f-4 : tie.Need-enum-known-f-4
 enum-known-f-4 c = search needs
 
--- src/few.rt:85:13
 slice-write-out-7 : tie.Need-slice-write-out-7
 unfolding listed
 slice-write-out-7 c = let h = rw (c .before .f4 .given .1) at (c .before .before .before .pre) in omega arith
 
--- src/few.rt:86:17
 add-out-4 : tie.Need-add-out-4
 unfolding listed
 add-out-4 c = let h = rw (c .before .f4 .given .1) at (c .before .before .before .pre) in omega arith
 
--- src/few.rt:86:13
 slice-write-out-8 : tie.Need-slice-write-out-8
 unfolding listed
 slice-write-out-8 c = let h = rw (c .before .f4 .given .1) at (c .before .before .before .pre) in simp length-set (omega arith)
 
--- src/few.rt:87:17
 add-out-5 : tie.Need-add-out-5
 unfolding listed
 add-out-5 c = let h = rw (c .before .f4 .given .1) at (c .before .before .before .pre) in omega arith
 
--- src/few.rt:87:13
 slice-write-out-9 : tie.Need-slice-write-out-9
 unfolding listed
 slice-write-out-9 c = let h = rw (c .before .f4 .given .1) at (c .before .before .before .pre) in simp length-set (omega arith)
 
--- src/few.rt:88:17
 add-out-6 : tie.Need-add-out-6
 unfolding listed
 add-out-6 c = let h = rw (c .before .f4 .given .1) at (c .before .before .before .pre) in omega arith
 
--- src/few.rt:88:13
 slice-write-out-10 : tie.Need-slice-write-out-10
 unfolding listed
 slice-write-out-10 c = let h = rw (c .before .f4 .given .1) at (c .before .before .before .pre) in simp length-set (omega arith)
 
--- src/few.rt:66:1
 returns : tie.Need-returns
 unfolding listed
 returns c = rw (c .enum-told .given .1)
 
--- src/few.rt:66:1
 same-length : tie.Need-same-length
 same-length c = simp length-set
 
--- src/few.rt:66:1
 returns-2 : tie.Need-returns-2
 unfolding listed
 returns-2 c = rw (c .before .f .given .1)
 
--- src/few.rt:66:1
 same-length-2 : tie.Need-same-length-2
 same-length-2 c = simp length-set
 
--- src/few.rt:66:1
 returns-3 : tie.Need-returns-3
 unfolding listed
 returns-3 c = rw (c .before .f2 .given .1) (simp towards-suc)
 
--- src/few.rt:66:1
 same-length-3 : tie.Need-same-length-3
 same-length-3 c = simp length-set
 
--- src/few.rt:66:1
 returns-4 : tie.Need-returns-4
 unfolding listed
 returns-4 c = rw (c .before .f3 .given .1) (simp towards-suc)
 
--- src/few.rt:66:1
 same-length-4 : tie.Need-same-length-4
 same-length-4 c = simp length-set
 
--- src/few.rt:66:1
 returns-5 : tie.Need-returns-5
 unfolding listed
 returns-5 c = rw (c .before .f4 .given .1) (simp towards-suc)

@@ -7,27 +7,21 @@ use Rattle.literals.proofs.number.and_digit.Tie as tie
 use Rattle.literals.proofs.number.and_digit.Reads as reads
 use Rattle.literals.proofs.number.and_digit.Lts as lts
 
--- src/number.rt:111:8
 div-if1 : tie.Need-div-if1
 div-if1 c = omega arith
 
--- src/number.rt:112:9
 returns : tie.Need-returns
 returns c = wide-digit (c .before .args .base) (c .before .args .m) (c .before .args .d) (c .before .pre .0) (c .if1 .taken)
 
--- src/number.rt:114:13
 mul-n : tie.Need-mul-n
 mul-n c = let h = close-digit (c .before .args .base) (c .before .args .m) (c .before .pre .0) (c .if1 .left) in omega arith
 
--- src/number.rt:114:13
 add-n : tie.Need-add-n
 add-n c = let h = close-digit (c .before .args .base) (c .before .args .m) (c .before .pre .0) (c .if1 .left) in omega arith
 
--- src/number.rt:116:9
 returns-2 : tie.Need-returns-2
 returns-2 c = sym (cap-over _ (omega arith))
 
--- src/number.rt:106:1
 returns-3 : tie.Need-returns-3
 returns-3 c = sym (cap-under _ (omega arith))
 

@@ -11,27 +11,21 @@ use Rattle.literals.proofs.number.as_decimal.Tie as tie
 use Rattle.literals.proofs.number.as_decimal.Reads as reads
 use Rattle.literals.proofs.number.as_decimal.Lts as lts
 
--- src/number.rt:534:9
 returns : tie.Need-returns
 returns c = sym (decimal-wide (c .before .args .minus) (c .before .args .m) _ (c .if1 .taken))
 
--- src/number.rt:537:9
 returns-2 : tie.Need-returns-2
 returns-2 c = sym (power-wide (c .before .before .args .minus) (c .before .before .args .m) (c .before .before .args .below) (c .before .before .args .n) (c .if2 .taken))
 
--- src/number.rt:539:13
 cast-p : tie.Need-cast-p
 cast-p c = omega arith
 
--- src/number.rt:541:48
 sub-t7 : tie.Need-sub-t7
 sub-t7 c = neg-of-fits (c .before .before .before .args .n) (omega arith)
 
--- src/number.rt:541:9
 returns-3 : tie.Need-returns-3
 returns-3 c = rw (c .if3 .taken) (ap (Decimal (c .before .before .before .args .minus) (c .before .before .before .args .m)) (neg-of-read (c .before .before .before .args .n) (omega arith)) ∙ sym (decimal-low (c .before .before .before .args .minus) (c .before .before .before .args .m) (c .before .before .before .args .n) (omega arith) (omega arith)))
 
--- src/number.rt:530:1
 returns-4 : tie.Need-returns-4
 returns-4 c = rw (c .if3 .left) (ap (Decimal (c .before .before .before .args .minus) (c .before .before .before .args .m)) (toZ-pos w64 (omega arith)) ∙ sym (decimal-good (c .before .before .before .args .minus) (c .before .before .before .args .m) (c .before .before .before .args .n) (omega arith) (omega arith)))
 

@@ -13,47 +13,37 @@ use Rattle.literals.proofs.number.as_integer.Tie as tie
 use Rattle.literals.proofs.number.as_integer.Reads as reads
 use Rattle.literals.proofs.number.as_integer.Lts as lts
 
--- src/number.rt:514:12
 add-if2 : tie.Need-add-if2
 add-if2 c = omega arith
 
--- src/number.rt:515:13
 returns : tie.Need-returns
 unfolding asInteger
 returns c = rw (c .before .if1 .taken, lt-leb (c .before .before .args .m) 9223372036854775808 (omega arith))
 
--- src/number.rt:518:13
 returns-2 : tie.Need-returns-2
 unfolding asInteger
 returns-2 c = rw (c .before .before .if1 .taken, c .if3 .taken)
 
--- src/number.rt:520:18
 sub-k : tie.Need-sub-k
 sub-k c = omega arith
 
--- src/number.rt:520:17
 cast-k : tie.Need-cast-k
 cast-k c = omega arith
 
--- src/number.rt:521:33
 sub-t7 : tie.Need-sub-t7
 sub-t7 c = down-fits (c .before .before .before .args .m - 1) (omega arith)
 
--- src/number.rt:521:9
 returns-3 : tie.Need-returns-3
 unfolding asInteger
 returns-3 c = rw (c .before .before .if1 .taken, le-leb (c .before .before .before .args .m) 9223372036854775808 (omega arith)) (ap Integer (neg-read (c .before .before .before .args .m) (omega arith) (omega arith)))
 
--- src/number.rt:524:9
 returns-4 : tie.Need-returns-4
 unfolding asInteger
 returns-4 c = rw (c .before .if1 .left, lt-leb (c .before .before .args .m) 9223372036854775807 (omega arith))
 
--- src/number.rt:526:22
 cast-t8 : tie.Need-cast-t8
 cast-t8 c = omega arith
 
--- src/number.rt:510:1
 returns-5 : tie.Need-returns-5
 unfolding asInteger
 returns-5 c = rw (c .before .if1 .left, le-leb (c .before .before .args .m) 9223372036854775807 (omega arith)) (ap Integer (toZ-pos w64 (omega arith)))

@@ -7,22 +7,18 @@ use Rattle.literals.proofs.number.base_of.Tie as tie
 use Rattle.literals.proofs.number.base_of.Reads as reads
 use Rattle.literals.proofs.number.base_of.Lts as lts
 
--- src/number.rt:152:9
 returns : tie.Need-returns
 unfolding baseOf
 returns c = rw (eq-eqb _ 120 (c .if1 .taken))
 
--- src/number.rt:155:9
 returns-2 : tie.Need-returns-2
 unfolding baseOf
 returns-2 c = rw (ne-eqb _ 120 (c .before .if1 .left), eq-eqb _ 111 (c .if2 .taken))
 
--- src/number.rt:158:9
 returns-3 : tie.Need-returns-3
 unfolding baseOf
 returns-3 c = rw (ne-eqb _ 120 (c .before .before .if1 .left), ne-eqb _ 111 (c .before .if2 .left), eq-eqb _ 98 (c .if3 .taken))
 
--- src/number.rt:148:1
 returns-4 : tie.Need-returns-4
 unfolding baseOf
 returns-4 c = rw (ne-eqb _ 120 (c .before .before .if1 .left), ne-eqb _ 111 (c .before .if2 .left), ne-eqb _ 98 (c .if3 .left))

@@ -12,25 +12,20 @@ use Rattle.literals.proofs.number.based_step.Lts as lts
 use Rattle.literals.proofs.number.and_digit.Reads as and-digit-reads
 use Rattle.literals.proofs.number.digit_of.Reads as digit-of-reads
 
--- src/number.rt:296:9
 digit-of-requires : tie.Need-digit-of-requires
 digit-of-requires c κs = search needs
 
--- src/number.rt:300:16
 and-digit-requires : tie.Need-and-digit-requires
 and-digit-requires c κs = search needs
 
--- src/number.rt:298:9
 returns : tie.Need-returns
 unfolding numberStep capped
 returns c = rw (lt-ltb (digitValue (c .before .before .before .args .b)) (c .before .before .before .args .base) (omega arith), c .and-digit .ensures, c .before .before .digit-of .ensures .0, cap-cap)
 
--- src/number.rt:304:9
 returns-2 : tie.Need-returns-2
 unfolding numberStep capped
 returns-2 c = rw (le-ltb (digitValue (c .before .before .before .args .b)) (c .before .before .before .args .base) (omega arith), eq-eqb _ 95 (c .if2 .taken))
 
--- src/number.rt:293:1
 returns-3 : tie.Need-returns-3
 unfolding numberStep capped
 returns-3 c = rw (le-ltb (digitValue (c .before .before .before .args .b)) (c .before .before .before .args .base) (omega arith), ne-eqb _ 95 (c .if2 .left))

@@ -13,39 +13,31 @@ use Rattle.literals.proofs.number.and_digit.Reads as and-digit-reads
 use Rattle.literals.proofs.number.digit_of.Reads as digit-of-reads
 use Rattle.literals.proofs.number.is_e.Reads as is-e-reads
 
--- src/number.rt:233:9
 digit-of-requires : tie.Need-digit-of-requires
 digit-of-requires c κs = search needs
 
--- src/number.rt:237:16
 and-digit-requires : tie.Need-and-digit-requires
 and-digit-requires c κs = search needs
 
--- src/number.rt:235:9
 returns : tie.Need-returns
 unfolding numberStep capped
 returns c = rw (lt-ltb (digitValue (c .before .before .before .args .b)) 10 (omega arith), c .and-digit .ensures, c .before .before .digit-of .ensures .0, cap-cap)
 
--- src/number.rt:241:9
 returns-2 : tie.Need-returns-2
 unfolding numberStep capped
 returns-2 c = rw (le-ltb (digitValue (c .before .before .before .args .b)) 10 (omega arith), eq-eqb _ 95 (c .if2 .taken))
 
--- src/number.rt:244:9
 returns-3 : tie.Need-returns-3
 unfolding numberStep capped
 returns-3 c = rw (le-ltb (digitValue (c .before .before .before .before .args .b)) 10 (omega arith), ne-eqb _ 95 (c .before .if2 .left), eq-eqb _ 46 (c .if3 .taken))
 
--- src/number.rt:246:8
 is-e-requires : tie.Need-is-e-requires
 is-e-requires c κs = search needs
 
--- src/number.rt:247:9
 returns-4 : tie.Need-returns-4
 unfolding numberStep capped
 returns-4 c = rw (le-ltb (digitValue (c .before .before .before .before .before .before .args .b)) 10 (omega arith), ne-eqb _ 95 (c .before .before .before .if2 .left), ne-eqb _ 46 (c .before .before .if3 .left), ← (c .before .is-e .ensures), c .if4 .taken)
 
--- src/number.rt:230:1
 returns-5 : tie.Need-returns-5
 unfolding numberStep capped
 returns-5 c = rw (le-ltb (digitValue (c .before .before .before .before .before .before .args .b)) 10 (omega arith), ne-eqb _ 95 (c .before .before .before .if2 .left), ne-eqb _ 46 (c .before .before .if3 .left), ← (c .before .is-e .ensures), c .if4 .left)

@@ -12,20 +12,16 @@ use Rattle.literals.proofs.number.dot_step.Lts as lts
 use Rattle.literals.proofs.number.and_digit.Reads as and-digit-reads
 use Rattle.literals.proofs.number.digit_of.Reads as digit-of-reads
 
--- src/number.rt:272:9
 digit-of-requires : tie.Need-digit-of-requires
 digit-of-requires c κs = search needs
 
--- src/number.rt:276:16
 and-digit-requires : tie.Need-and-digit-requires
 and-digit-requires c κs = search needs
 
--- src/number.rt:274:9
 returns : tie.Need-returns
 unfolding numberStep capped
 returns c = rw (lt-ltb (digitValue (c .before .before .before .args .b)) 10 (omega arith), c .and-digit .ensures, c .before .before .digit-of .ensures .0, cap-cap)
 
--- src/number.rt:269:1
 returns-2 : tie.Need-returns-2
 unfolding numberStep capped
 returns-2 c = rw (le-ltb (digitValue (c .before .before .args .b)) 10 (omega arith))

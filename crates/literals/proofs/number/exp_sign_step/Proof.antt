@@ -10,25 +10,20 @@ use Rattle.literals.proofs.number.exp_sign_step.Lts as lts
 use Rattle.literals.proofs.number.digit_of.Reads as digit-of-reads
 use Rattle.literals.proofs.number.is_one_to_nine.Reads as is-one-to-nine-reads
 
--- src/number.rt:401:9
 returns : tie.Need-returns
 unfolding numberStep capped
 returns c = rw (eq-eqb _ 48 (c .if1 .taken))
 
--- src/number.rt:408:8
 is-one-to-nine-requires : tie.Need-is-one-to-nine-requires
 is-one-to-nine-requires c κs = search needs
 
--- src/number.rt:414:18
 digit-of-requires : tie.Need-digit-of-requires
 digit-of-requires c κs = search needs
 
--- src/number.rt:409:9
 returns-2 : tie.Need-returns-2
 unfolding numberStep capped
 returns-2 c = rw (ne-eqb _ 48 (c .before .before .before .if1 .left), ← (c .before .before .is-one-to-nine .ensures), c .before .if2 .taken, c .digit-of .ensures .0)
 
--- src/number.rt:397:1
 returns-3 : tie.Need-returns-3
 unfolding numberStep capped
 returns-3 c = rw (ne-eqb _ 48 (c .before .before .if1 .left), ← (c .before .is-one-to-nine .ensures), c .if2 .left)

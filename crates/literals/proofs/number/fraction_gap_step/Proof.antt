@@ -13,24 +13,19 @@ use Rattle.literals.proofs.number.fraction_gap_step.Lts as lts
 use Rattle.literals.proofs.number.and_digit.Reads as and-digit-reads
 use Rattle.literals.proofs.number.digit_of.Reads as digit-of-reads
 
--- src/number.rt:347:9
 digit-of-requires : tie.Need-digit-of-requires
 digit-of-requires c κs = search needs
 
--- src/number.rt:351:16
 and-digit-requires : tie.Need-and-digit-requires
 and-digit-requires c κs = search needs
 
--- src/number.rt:352:21
 add-t8 : tie.Need-add-t8
 add-t8 c = omega arith
 
--- src/number.rt:349:9
 returns : tie.Need-returns
 unfolding numberStep capped
 returns c = rw (lt-ltb (digitValue (c .before .before .before .args .b)) 10 (omega arith), c .and-digit .ensures, c .before .before .digit-of .ensures .0, cap-cap, add-one)
 
--- src/number.rt:343:1
 returns-2 : tie.Need-returns-2
 unfolding numberStep capped
 returns-2 c = rw (le-ltb (digitValue (c .before .before .args .b)) 10 (omega arith))

@@ -6,11 +6,9 @@ use Rattle.literals.proofs.number.is_e.Tie as tie
 use Rattle.literals.proofs.number.is_e.Reads as reads
 use Rattle.literals.proofs.number.is_e.Lts as lts
 
--- src/number.rt:133:9
 returns : tie.Need-returns
 returns c = rw (eq-eqb _ 101 (c .if1 .taken))
 
--- src/number.rt:129:1
 returns-2 : tie.Need-returns-2
 returns-2 c = rw (ne-eqb _ 101 (c .if1 .left))
 

@@ -6,11 +6,9 @@ use Rattle.literals.proofs.number.is_one_to_nine.Tie as tie
 use Rattle.literals.proofs.number.is_one_to_nine.Reads as reads
 use Rattle.literals.proofs.number.is_one_to_nine.Lts as lts
 
--- src/number.rt:142:9
 returns : tie.Need-returns
 returns c = rw (lt-leb 49 _ (c .if1 .taken))
 
--- src/number.rt:138:1
 returns-2 : tie.Need-returns-2
 returns-2 c = rw (le-leb 49 _ (c .if1 .left))
 

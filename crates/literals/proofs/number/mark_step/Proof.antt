@@ -10,35 +10,28 @@ use Rattle.literals.proofs.number.mark_step.Lts as lts
 use Rattle.literals.proofs.number.digit_of.Reads as digit-of-reads
 use Rattle.literals.proofs.number.is_one_to_nine.Reads as is-one-to-nine-reads
 
--- src/number.rt:362:9
 returns : tie.Need-returns
 unfolding numberStep capped
 returns c = rw (eq-eqb _ 43 (c .if1 .taken), ne-eqb (c .before .args .b) 45 (λ e. omega arith))
 
--- src/number.rt:370:9
 returns-2 : tie.Need-returns-2
 unfolding numberStep capped
 returns-2 c = rw (ne-eqb _ 43 (c .before .if1 .left), eq-eqb _ 45 (c .if2 .taken))
 
--- src/number.rt:378:9
 returns-3 : tie.Need-returns-3
 unfolding numberStep capped
 returns-3 c = rw (ne-eqb _ 43 (c .before .before .if1 .left), ne-eqb _ 45 (c .before .if2 .left), eq-eqb _ 48 (c .if3 .taken))
 
--- src/number.rt:385:8
 is-one-to-nine-requires : tie.Need-is-one-to-nine-requires
 is-one-to-nine-requires c κs = search needs
 
--- src/number.rt:391:18
 digit-of-requires : tie.Need-digit-of-requires
 digit-of-requires c κs = search needs
 
--- src/number.rt:386:9
 returns-4 : tie.Need-returns-4
 unfolding numberStep capped
 returns-4 c = rw (ne-eqb _ 43 (c .before .before .before .before .before .if1 .left), ne-eqb _ 45 (c .before .before .before .before .if2 .left), ne-eqb _ 48 (c .before .before .before .if3 .left), ← (c .before .before .is-one-to-nine .ensures), c .before .if4 .taken, c .digit-of .ensures .0)
 
--- src/number.rt:358:1
 returns-5 : tie.Need-returns-5
 unfolding numberStep capped
 returns-5 c = rw (ne-eqb _ 43 (c .before .before .before .before .if1 .left), ne-eqb _ 45 (c .before .before .before .if2 .left), ne-eqb _ 48 (c .before .before .if3 .left), ← (c .before .is-one-to-nine .ensures), c .if4 .left)

@@ -9,179 +9,139 @@ use Rattle.literals.proofs.number.as_decimal.Reads as as-decimal-reads
 use Rattle.literals.proofs.number.as_integer.Reads as as-integer-reads
 use Rattle.literals.proofs.number.with_exponent.Reads as with-exponent-reads
 
--- src/number.rt:570:26
 enum-told : tie.Need-enum-told
 enum-told c = search needs
 
--- src/number.rt:571:24
 enum-told-2 : tie.Need-enum-told-2
 enum-told-2 c = search needs
 
--- src/number.rt:572:38
 enum-told-3 : tie.Need-enum-told-3
 enum-told-3 c = search needs
 
--- src/number.rt:573:35
 enum-known-n : tie.Need-enum-known-n
 enum-known-n c = search needs
 
--- src/number.rt:573:46
 as-integer-requires : tie.Need-as-integer-requires
 as-integer-requires c κs = search needs
 
--- src/number.rt:574:25
 enum-known-n-2 : tie.Need-enum-known-n-2
 enum-known-n-2 c = search needs
 
--- src/number.rt:574:39
 as-integer-requires-2 : tie.Need-as-integer-requires-2
 as-integer-requires-2 c κs = search needs
 
--- src/number.rt:575:43
 enum-told-4 : tie.Need-enum-told-4
 enum-told-4 c = search needs
 
--- src/number.rt:576:43
 enum-told-5 : tie.Need-enum-told-5
 enum-told-5 c = search needs
 
--- src/number.rt:577:39
 enum-told-6 : tie.Need-enum-told-6
 enum-told-6 c = search needs
 
--- src/number.rt:578:34
 enum-known-n-3 : tie.Need-enum-known-n-3
 enum-known-n-3 c = search needs
 
--- src/number.rt:578:41
 as-integer-requires-3 : tie.Need-as-integer-requires-3
 as-integer-requires-3 c κs = search needs
 
--- src/number.rt:579:47
 enum-told-7 : tie.Need-enum-told-7
 enum-told-7 c = search needs
 
--- src/number.rt:580:28
 enum-known-n-4 : tie.Need-enum-known-n-4
 enum-known-n-4 c = search needs
 
--- src/number.rt:580:50
 as-decimal-requires : tie.Need-as-decimal-requires
 as-decimal-requires c κs = search needs
 
--- src/number.rt:585:14
 enum-told-8 : tie.Need-enum-told-8
 enum-told-8 c = search needs
 
--- src/number.rt:590:14
 enum-told-9 : tie.Need-enum-told-9
 enum-told-9 c = search needs
 
--- src/number.rt:596:14
 enum-told-10 : tie.Need-enum-told-10
 enum-told-10 c = search needs
 
--- src/number.rt:598:13
 enum-known-n-5 : tie.Need-enum-known-n-5
 enum-known-n-5 c = search needs
 
--- src/number.rt:602:14
 as-decimal-requires-2 : tie.Need-as-decimal-requires-2
 as-decimal-requires-2 c κs = search needs
 
--- src/number.rt:604:13
 enum-known-n-6 : tie.Need-enum-known-n-6
 enum-known-n-6 c = search needs
 
--- src/number.rt:609:14
 with-exponent-requires : tie.Need-with-exponent-requires
 with-exponent-requires c κs = search needs
 
--- src/number.rt:616:14
 enum-told-11 : tie.Need-enum-told-11
 enum-told-11 c = search needs
 
--- src/number.rt:566:1
 returns : tie.Need-returns
 unfolding meaning
 returns c = rw (c .enum-told .given .1)
 
--- src/number.rt:566:1
 returns-2 : tie.Need-returns-2
 unfolding meaning
 returns-2 c = rw (c .enum-told2 .given .1)
 
--- src/number.rt:566:1
 returns-3 : tie.Need-returns-3
 unfolding meaning
 returns-3 c = rw (c .enum-told3 .given .1)
 
--- src/number.rt:566:1
 returns-4 : tie.Need-returns-4
 unfolding meaning
 returns-4 c = rw (c .before .before .n .given .1) (c .as-integer .ensures)
 
--- src/number.rt:566:1
 returns-5 : tie.Need-returns-5
 unfolding meaning
 returns-5 c = rw (c .before .before .n2 .given .1) (c .as-integer2 .ensures)
 
--- src/number.rt:566:1
 returns-6 : tie.Need-returns-6
 unfolding meaning
 returns-6 c = rw (c .enum-told4 .given .1)
 
--- src/number.rt:566:1
 returns-7 : tie.Need-returns-7
 unfolding meaning
 returns-7 c = rw (c .enum-told5 .given .1)
 
--- src/number.rt:566:1
 returns-8 : tie.Need-returns-8
 unfolding meaning
 returns-8 c = rw (c .enum-told6 .given .1)
 
--- src/number.rt:566:1
 returns-9 : tie.Need-returns-9
 unfolding meaning
 returns-9 c = rw (c .before .before .n3 .given .1) (c .as-integer3 .ensures)
 
--- src/number.rt:566:1
 returns-10 : tie.Need-returns-10
 unfolding meaning
 returns-10 c = rw (c .enum-told7 .given .1)
 
--- src/number.rt:566:1
 returns-11 : tie.Need-returns-11
 unfolding meaning
 returns-11 c = rw (c .before .before .n4 .given .1) (c .as-decimal .ensures)
 
--- src/number.rt:566:1
 returns-12 : tie.Need-returns-12
 unfolding meaning
 returns-12 c = rw (c .enum-told8 .given .1)
 
--- src/number.rt:566:1
 returns-13 : tie.Need-returns-13
 unfolding meaning
 returns-13 c = rw (c .enum-told9 .given .1)
 
--- src/number.rt:566:1
 returns-14 : tie.Need-returns-14
 unfolding meaning
 returns-14 c = rw (c .enum-told10 .given .1)
 
--- src/number.rt:566:1
 returns-15 : tie.Need-returns-15
 unfolding meaning
 returns-15 c = rw (c .before .before .n5 .given .1) (c .as-decimal2 .ensures)
 
--- src/number.rt:566:1
 returns-16 : tie.Need-returns-16
 unfolding meaning
 returns-16 c = rw (c .before .before .n6 .given .1) (c .with-exponent .ensures)
 
--- src/number.rt:566:1
 returns-17 : tie.Need-returns-17
 unfolding meaning
 returns-17 c = rw (c .enum-told11 .given .1)

@@ -22,36 +22,28 @@ Inv-loop token n₀ i₀ n i = (i ≤ length token) × (placesOf n ≤ i) × (ca
 abbrev μ-loop : tie.MeasureT-loop
 μ-loop token n₀ i₀ n i = length token - i
 
--- src/number.rt:626:5
 loop-holds : tie.Need-loop-holds Inv-loop μ-loop
 unfolding placesOf
 loop-holds c = (omega arith, omega arith, refl)
 
--- src/number.rt:627:28
 shared-slice-read-number-step : tie.Need-shared-slice-read-number-step Inv-loop μ-loop
 shared-slice-read-number-step c = search needs
 
--- src/number.rt:627:9
 number-step-requires : tie.Need-number-step-requires Inv-loop μ-loop
 number-step-requires c κs = omega arith
 
--- src/number.rt:628:9
 add-i : tie.Need-add-i Inv-loop μ-loop
 add-i c = omega arith
 
--- src/number.rt:626:5
 loop-less : tie.Need-loop-less Inv-loop μ-loop
 loop-less c = omega arith
 
--- src/number.rt:626:5
 loop-again : tie.Need-loop-again Inv-loop μ-loop
 loop-again c = (omega arith, few-turn (c .before .before .before .loop .n) (c .number-step .result) (getD (c .before .before .before .before .before .args .token .now) (c .before .before .before .loop .i) 0) (c .before .before .before .loop .i) (c .number-step .ensures) (c .before .before .before .loop .inv .1), c .before .before .before .loop .inv .2 ∙ same-turn (c .before .before .before .loop .n) (c .number-step .result) (c .before .before .before .before .before .args .token .now) (c .before .before .before .loop .i) (omega arith) (c .number-step .ensures))
 
--- src/number.rt:630:5
 meaning-of-requires : tie.Need-meaning-of-requires Inv-loop μ-loop
 meaning-of-requires c κs = search needs
 
--- src/number.rt:621:1
 returns : tie.Need-returns Inv-loop μ-loop
 unfolding number
 returns c = c .meaning-of .ensures ∙ sym (same-meaning (feed numberStep Start (c .before .before .before .before .args .token .now)) (c .before .before .loop .n) (c .before .before .loop .inv .2 ∙ ap capped (feed-done numberStep (c .before .before .loop .n) (c .before .before .before .before .args .token .now) (c .before .before .loop .i) (omega arith))) (omega arith))

@@ -22,203 +22,154 @@ use Rattle.literals.proofs.number.sign_step.Reads as sign-step-reads
 use Rattle.literals.proofs.number.start_step.Reads as start-step-reads
 use Rattle.literals.proofs.number.zero_step.Reads as zero-step-reads
 
--- src/number.rt:467:26
 enum-told : tie.Need-enum-told
 enum-told c = search needs
 
--- src/number.rt:467:26
 start-step-requires : tie.Need-start-step-requires
 start-step-requires c κs = search needs
 
--- src/number.rt:468:24
 enum-told-2 : tie.Need-enum-told-2
 enum-told-2 c = search needs
 
--- src/number.rt:469:24
 enum-known-n : tie.Need-enum-known-n
 enum-known-n c = search needs
 
--- src/number.rt:469:35
 sign-step-requires : tie.Need-sign-step-requires
 sign-step-requires c κs = search needs
 
--- src/number.rt:470:24
 enum-known-n-2 : tie.Need-enum-known-n-2
 enum-known-n-2 c = search needs
 
--- src/number.rt:470:43
 zero-step-requires : tie.Need-zero-step-requires
 zero-step-requires c κs = search needs
 
--- src/number.rt:471:25
 enum-known-n-3 : tie.Need-enum-known-n-3
 enum-known-n-3 c = search needs
 
--- src/number.rt:471:39
 digit-step-requires : tie.Need-digit-step-requires
 digit-step-requires c κs = search needs
 
--- src/number.rt:472:23
 enum-known-n-4 : tie.Need-enum-known-n-4
 enum-known-n-4 c = search needs
 
--- src/number.rt:472:37
 gap-step-requires : tie.Need-gap-step-requires
 gap-step-requires c κs = search needs
 
--- src/number.rt:473:23
 enum-known-n-5 : tie.Need-enum-known-n-5
 enum-known-n-5 c = search needs
 
--- src/number.rt:473:37
 dot-step-requires : tie.Need-dot-step-requires
 dot-step-requires c κs = search needs
 
--- src/number.rt:474:26
 enum-known-n-6 : tie.Need-enum-known-n-6
 enum-known-n-6 c = search needs
 
--- src/number.rt:474:36
 prefix-step-requires : tie.Need-prefix-step-requires
 prefix-step-requires c κs = search needs
 
--- src/number.rt:475:25
 enum-known-n-7 : tie.Need-enum-known-n-7
 enum-known-n-7 c = search needs
 
--- src/number.rt:475:38
 based-step-requires : tie.Need-based-step-requires
 based-step-requires c κs = search needs
 
--- src/number.rt:476:28
 enum-known-n-8 : tie.Need-enum-known-n-8
 enum-known-n-8 c = search needs
 
--- src/number.rt:476:41
 based-gap-step-requires : tie.Need-based-gap-step-requires
 based-gap-step-requires c κs = search needs
 
--- src/number.rt:477:28
 enum-known-n-9 : tie.Need-enum-known-n-9
 enum-known-n-9 c = search needs
 
--- src/number.rt:477:50
 fraction-step-requires : tie.Need-fraction-step-requires
 unfolding placesOf
 fraction-step-requires c κs = rw (c .before .n9 .given .1) at (c .before .before .before .pre)
 
--- src/number.rt:478:31
 enum-known-n-10 : tie.Need-enum-known-n-10
 enum-known-n-10 c = search needs
 
--- src/number.rt:478:53
 fraction-gap-step-requires : tie.Need-fraction-gap-step-requires
 unfolding placesOf
 fraction-gap-step-requires c κs = rw (c .before .n10 .given .1) at (c .before .before .before .pre)
 
--- src/number.rt:479:24
 enum-known-n-11 : tie.Need-enum-known-n-11
 enum-known-n-11 c = search needs
 
--- src/number.rt:479:46
 mark-step-requires : tie.Need-mark-step-requires
 mark-step-requires c κs = search needs
 
--- src/number.rt:481:13
 enum-known-n-12 : tie.Need-enum-known-n-12
 enum-known-n-12 c = search needs
 
--- src/number.rt:485:14
 exp-sign-step-requires : tie.Need-exp-sign-step-requires
 exp-sign-step-requires c κs = search needs
 
--- src/number.rt:491:14
 enum-told-3 : tie.Need-enum-told-3
 enum-told-3 c = search needs
 
--- src/number.rt:493:13
 enum-known-n-13 : tie.Need-enum-known-n-13
 enum-known-n-13 c = search needs
 
--- src/number.rt:498:14
 exp-digit-step-requires : tie.Need-exp-digit-step-requires
 exp-digit-step-requires c κs = search needs
 
--- src/number.rt:500:13
 enum-known-n-14 : tie.Need-enum-known-n-14
 enum-known-n-14 c = search needs
 
--- src/number.rt:505:14
 exp-gap-step-requires : tie.Need-exp-gap-step-requires
 exp-gap-step-requires c κs = search needs
 
--- src/number.rt:462:1
 returns : tie.Need-returns
 returns c = rw (c .before .enum-told .given .1) (c .start-step .ensures)
 
--- src/number.rt:462:1
 returns-2 : tie.Need-returns-2
 unfolding numberStep
 returns-2 c = rw (c .enum-told2 .given .1)
 
--- src/number.rt:462:1
 returns-3 : tie.Need-returns-3
 returns-3 c = rw (c .before .before .n .given .1) (c .sign-step .ensures)
 
--- src/number.rt:462:1
 returns-4 : tie.Need-returns-4
 returns-4 c = rw (c .before .before .n2 .given .1) (c .zero-step .ensures)
 
--- src/number.rt:462:1
 returns-5 : tie.Need-returns-5
 returns-5 c = rw (c .before .before .n3 .given .1) (c .digit-step .ensures)
 
--- src/number.rt:462:1
 returns-6 : tie.Need-returns-6
 returns-6 c = rw (c .before .before .n4 .given .1) (c .gap-step .ensures)
 
--- src/number.rt:462:1
 returns-7 : tie.Need-returns-7
 returns-7 c = rw (c .before .before .n5 .given .1) (c .dot-step .ensures)
 
--- src/number.rt:462:1
 returns-8 : tie.Need-returns-8
 returns-8 c = rw (c .before .before .n6 .given .1) (c .prefix-step .ensures)
 
--- src/number.rt:462:1
 returns-9 : tie.Need-returns-9
 returns-9 c = rw (c .before .before .n7 .given .1) (c .based-step .ensures)
 
--- src/number.rt:462:1
 returns-10 : tie.Need-returns-10
 returns-10 c = rw (c .before .before .n8 .given .1) (c .based-gap-step .ensures)
 
--- src/number.rt:462:1
 returns-11 : tie.Need-returns-11
 returns-11 c = rw (c .before .before .n9 .given .1) (c .fraction-step .ensures)
 
--- src/number.rt:462:1
 returns-12 : tie.Need-returns-12
 returns-12 c = rw (c .before .before .n10 .given .1) (c .fraction-gap-step .ensures)
 
--- src/number.rt:462:1
 returns-13 : tie.Need-returns-13
 returns-13 c = rw (c .before .before .n11 .given .1) (c .mark-step .ensures)
 
--- src/number.rt:462:1
 returns-14 : tie.Need-returns-14
 returns-14 c = rw (c .before .before .n12 .given .1) (c .exp-sign-step .ensures)
 
--- src/number.rt:462:1
 returns-15 : tie.Need-returns-15
 unfolding numberStep
 returns-15 c = rw (c .enum-told3 .given .1)
 
--- src/number.rt:462:1
 returns-16 : tie.Need-returns-16
 returns-16 c = rw (c .before .before .n13 .given .1) (c .exp-digit-step .ensures)
 
--- src/number.rt:462:1
 returns-17 : tie.Need-returns-17
 returns-17 c = rw (c .before .before .n14 .given .1) (c .exp-gap-step .ensures)
 

@@ -10,16 +10,13 @@ use Rattle.literals.proofs.number.prefix_step.Reads as reads
 use Rattle.literals.proofs.number.prefix_step.Lts as lts
 use Rattle.literals.proofs.number.digit_of.Reads as digit-of-reads
 
--- src/number.rt:286:9
 digit-of-requires : tie.Need-digit-of-requires
 digit-of-requires c κs = search needs
 
--- src/number.rt:288:9
 returns : tie.Need-returns
 unfolding numberStep capped
 returns c = rw (lt-ltb (digitValue (c .before .before .args .b)) (c .before .before .args .base) (omega arith), c .before .digit-of .ensures .0)
 
--- src/number.rt:283:1
 returns-2 : tie.Need-returns-2
 unfolding numberStep capped
 returns-2 c = rw (le-ltb (digitValue (c .before .before .args .b)) (c .before .before .args .base) (omega arith))

@@ -9,43 +9,33 @@ use Rattle.literals.proofs.number.with_exponent.Reads as reads
 use Rattle.literals.proofs.number.with_exponent.Lts as lts
 use Rattle.literals.proofs.number.as_decimal.Reads as as-decimal-reads
 
--- src/number.rt:552:13
 returns : tie.Need-returns
 returns c = rw (c .before .if1 .taken, power-below) (sym (power-low (c .before .before .args .minus) (c .before .before .args .m) (c .before .before .args .exp + c .before .before .args .places) (omega arith)))
 
--- src/number.rt:555:13
 returns-2 : tie.Need-returns-2
 returns-2 c = rw (c .before .before .if1 .taken, power-below) (sym (power-low (c .before .before .before .args .minus) (c .before .before .before .args .m) (c .before .before .before .args .exp + c .before .before .before .args .places) (omega arith)))
 
--- src/number.rt:557:43
 add-as-decimal : tie.Need-add-as-decimal
 add-as-decimal c = omega arith
 
--- src/number.rt:557:9
 as-decimal-requires : tie.Need-as-decimal-requires
 as-decimal-requires c κs = search needs
 
--- src/number.rt:557:9
 returns-3 : tie.Need-returns-3
 returns-3 c = rw (c .before .before .before .if1 .taken, power-below) (c .as-decimal .ensures)
 
--- src/number.rt:560:43
 sub-as-decimal : tie.Need-sub-as-decimal
 sub-as-decimal c = omega arith
 
--- src/number.rt:560:9
 as-decimal-requires-2 : tie.Need-as-decimal-requires-2
 as-decimal-requires-2 c κs = search needs
 
--- src/number.rt:560:9
 returns-4 : tie.Need-returns-4
 returns-4 c = rw (c .before .before .if1 .left, power-less (c .before .before .before .args .exp) (c .before .before .before .args .places) (omega arith)) (c .as-decimal2 .ensures)
 
--- src/number.rt:562:5
 as-decimal-requires-3 : tie.Need-as-decimal-requires-3
 as-decimal-requires-3 c κs = search needs
 
--- src/number.rt:547:1
 returns-5 : tie.Need-returns-5
 returns-5 c = rw (c .before .before .if1 .left, power-more (c .before .before .before .args .exp) (c .before .before .before .args .places) (omega arith)) (c .as-decimal3 .ensures)
 

@@ -10,35 +10,28 @@ use Rattle.literals.proofs.number.zero_step.Lts as lts
 use Rattle.literals.proofs.number.base_of.Reads as base-of-reads
 use Rattle.literals.proofs.number.is_e.Reads as is-e-reads
 
--- src/number.rt:211:9
 returns : tie.Need-returns
 unfolding numberStep capped
 returns c = rw (eq-eqb _ 46 (c .if1 .taken))
 
--- src/number.rt:213:8
 is-e-requires : tie.Need-is-e-requires
 is-e-requires c κs = search needs
 
--- src/number.rt:214:9
 returns-2 : tie.Need-returns-2
 unfolding numberStep capped
 returns-2 c = rw (ne-eqb _ 46 (c .before .before .if1 .left), ← (c .before .is-e .ensures), c .if2 .taken)
 
--- src/number.rt:221:9
 returns-3 : tie.Need-returns-3
 unfolding numberStep capped
 returns-3 c = rw (ne-eqb _ 46 (c .before .before .before .if1 .left), ← (c .before .before .is-e .ensures), c .before .if2 .left, c .if3 .taken)
 
--- src/number.rt:223:9
 base-of-requires : tie.Need-base-of-requires
 base-of-requires c κs = search needs
 
--- src/number.rt:225:9
 returns-4 : tie.Need-returns-4
 unfolding numberStep capped
 returns-4 c = rw (ne-eqb _ 46 (c .before .before .before .before .before .if1 .left), ← (c .before .before .before .before .is-e .ensures), c .before .before .before .if2 .left, c .before .before .if3 .left, ← (c .before .base-of .ensures), lt-ltb 0 _ (c .if4 .taken))
 
--- src/number.rt:207:1
 returns-5 : tie.Need-returns-5
 unfolding numberStep capped
 returns-5 c = rw (ne-eqb _ 46 (c .before .before .before .before .before .if1 .left), ← (c .before .before .before .before .is-e .ensures), c .before .before .before .if2 .left, c .before .before .if3 .left, ← (c .before .base-of .ensures), le-ltb 0 _ (c .if4 .left))

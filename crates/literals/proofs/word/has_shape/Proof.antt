@@ -20,35 +20,27 @@ Inv-loop s st₀ i₀ st i = (i ≤ length s) × (feed shapeStep Start s ≡ fee
 abbrev μ-loop : tie.MeasureT-loop
 μ-loop s st₀ i₀ st i = length s - i
 
--- src/word.rt:110:5
 loop-holds : tie.Need-loop-holds Inv-loop μ-loop
 loop-holds c = (omega arith, refl)
 
--- src/word.rt:111:29
 shared-slice-read-shape-step : tie.Need-shared-slice-read-shape-step Inv-loop μ-loop
 shared-slice-read-shape-step c = search needs
 
--- src/word.rt:111:9
 shape-step-requires : tie.Need-shape-step-requires Inv-loop μ-loop
 shape-step-requires c κs = search needs
 
--- src/word.rt:112:9
 add-i : tie.Need-add-i Inv-loop μ-loop
 add-i c = omega arith
 
--- src/word.rt:110:5
 loop-less : tie.Need-loop-less Inv-loop μ-loop
 loop-less c = omega arith
 
--- src/word.rt:110:5
 loop-again : tie.Need-loop-again Inv-loop μ-loop
 loop-again c = (omega arith, c .before .before .before .loop .inv .1 ∙ feed-turn shapeStep (c .before .before .before .loop .st) _ (c .before .before .before .before .before .args .s .now) (c .before .before .before .loop .i) (omega arith) (c .shape-step .ensures))
 
--- src/word.rt:114:5
 is-good-requires : tie.Need-is-good-requires Inv-loop μ-loop
 is-good-requires c κs = search needs
 
--- src/word.rt:105:1
 returns : tie.Need-returns Inv-loop μ-loop
 unfolding hasShape
 returns c = c .is-good .ensures ∙ ap isGood (sym (c .before .before .loop .inv .1 ∙ feed-done shapeStep (c .before .before .loop .st) (c .before .before .before .before .args .s .now) (c .before .before .loop .i) (omega arith)))

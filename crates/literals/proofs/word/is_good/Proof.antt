@@ -7,47 +7,37 @@ use Rattle.literals.proofs.word.is_good.Tie as tie
 use Rattle.literals.proofs.word.is_good.Reads as reads
 use Rattle.literals.proofs.word.is_good.Lts as lts
 
--- src/word.rt:96:25
 enum-told : tie.Need-enum-told
 enum-told c = search needs
 
--- src/word.rt:97:24
 enum-told-2 : tie.Need-enum-told-2
 enum-told-2 c = search needs
 
--- src/word.rt:98:24
 enum-told-3 : tie.Need-enum-told-3
 enum-told-3 c = search needs
 
--- src/word.rt:99:26
 enum-told-4 : tie.Need-enum-told-4
 enum-told-4 c = search needs
 
--- src/word.rt:100:23
 enum-told-5 : tie.Need-enum-told-5
 enum-told-5 c = search needs
 
--- src/word.rt:92:1
 returns : tie.Need-returns
 unfolding isGood
 returns c = sym (ap isGood (c .enum-told .given .1))
 
--- src/word.rt:92:1
 returns-2 : tie.Need-returns-2
 unfolding isGood
 returns-2 c = sym (ap isGood (c .enum-told2 .given .1))
 
--- src/word.rt:92:1
 returns-3 : tie.Need-returns-3
 unfolding isGood
 returns-3 c = sym (ap isGood (c .enum-told3 .given .1))
 
--- src/word.rt:92:1
 returns-4 : tie.Need-returns-4
 unfolding isGood
 returns-4 c = sym (ap isGood (c .enum-told4 .given .1))
 
--- src/word.rt:92:1
 returns-5 : tie.Need-returns-5
 unfolding isGood
 returns-5 c = sym (ap isGood (c .enum-told5 .given .1))

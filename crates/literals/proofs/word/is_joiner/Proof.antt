@@ -6,11 +6,9 @@ use Rattle.literals.proofs.word.is_joiner.Tie as tie
 use Rattle.literals.proofs.word.is_joiner.Reads as reads
 use Rattle.literals.proofs.word.is_joiner.Lts as lts
 
--- src/word.rt:48:9
 returns : tie.Need-returns
 returns c = rw (eq-eqb _ 95 (c .if1 .taken))
 
--- src/word.rt:44:1
 returns-2 : tie.Need-returns-2
 returns-2 c = rw (ne-eqb _ 95 (c .if1 .left))
 

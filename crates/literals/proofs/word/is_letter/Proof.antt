@@ -6,19 +6,15 @@ use Rattle.literals.proofs.word.is_letter.Tie as tie
 use Rattle.literals.proofs.word.is_letter.Reads as reads
 use Rattle.literals.proofs.word.is_letter.Lts as lts
 
--- src/word.rt:20:9
 returns : tie.Need-returns
 returns c = rw (lt-leb 65 _ (c .if1 .taken), lt-leb 97 (c .before .args .b) (omega arith))
 
--- src/word.rt:23:9
 returns-2 : tie.Need-returns-2
 returns-2 c = rw (le-leb 65 _ (c .before .if1 .left), le-leb _ 90 (c .if2 .taken))
 
--- src/word.rt:26:9
 returns-3 : tie.Need-returns-3
 returns-3 c = rw (lt-leb _ 90 (c .before .if2 .left), le-leb 65 (c .before .before .before .args .b) (omega arith), lt-leb 97 _ (c .if3 .taken))
 
--- src/word.rt:16:1
 returns-4 : tie.Need-returns-4
 returns-4 c = rw (lt-leb _ 90 (c .before .if2 .left), le-leb 65 (c .before .before .before .args .b) (omega arith), le-leb 97 _ (c .if3 .left))
 

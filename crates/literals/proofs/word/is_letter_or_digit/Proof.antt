@@ -10,21 +10,17 @@ use Rattle.literals.proofs.word.is_letter_or_digit.Reads as reads
 use Rattle.literals.proofs.word.is_letter_or_digit.Lts as lts
 use Rattle.literals.proofs.word.is_letter.Reads as is-letter-reads
 
--- src/word.rt:34:8
 is-letter-requires : tie.Need-is-letter-requires
 is-letter-requires c κs = search needs
 
--- src/word.rt:35:9
 returns : tie.Need-returns
 unfolding isLetterOrDigit
 returns c = let e : (isCapital (c .before .before .args .b) || isSmall (c .before .before .args .b)) ≡ true = sym (c .before .is-letter .ensures) ∙ c .if1 .taken in rw e
 
--- src/word.rt:38:9
 returns-2 : tie.Need-returns-2
 unfolding isLetterOrDigit
 returns-2 c = let e : (isCapital (c .before .before .before .args .b) || isSmall (c .before .before .before .args .b)) ≡ false = sym (c .before .before .is-letter .ensures) ∙ c .before .if1 .left in rw (e, lt-leb 48 _ (c .if2 .taken))
 
--- src/word.rt:31:1
 returns-3 : tie.Need-returns-3
 unfolding isLetterOrDigit
 returns-3 c = let e : (isCapital (c .before .before .before .args .b) || isSmall (c .before .before .before .args .b)) ≡ false = sym (c .before .before .is-letter .ensures) ∙ c .before .if1 .left in rw (e, le-leb 48 _ (c .if2 .left))

@@ -10,97 +10,76 @@ use Rattle.literals.proofs.word.is_joiner.Reads as is-joiner-reads
 use Rattle.literals.proofs.word.is_letter.Reads as is-letter-reads
 use Rattle.literals.proofs.word.is_letter_or_digit.Reads as is-letter-or-digit-reads
 
--- src/word.rt:59:16
 enum-told : tie.Need-enum-told
 enum-told c = search needs
 
--- src/word.rt:60:17
 returns : tie.Need-returns
 unfolding shapeStep
 returns c = rw (c .before .enum-told .given .1, eq-eqb _ 95 (c .if1 .taken))
 
--- src/word.rt:62:16
 is-letter-requires : tie.Need-is-letter-requires
 is-letter-requires c κs = search needs
 
--- src/word.rt:63:17
 returns-2 : tie.Need-returns-2
 unfolding shapeStep
 returns-2 c = rw (c .before .before .before .enum-told .given .1, ne-eqb _ 95 (c .before .before .if1 .left), ← (c .before .is-letter .ensures), c .if2 .taken)
 
--- src/word.rt:68:16
 enum-told-2 : tie.Need-enum-told-2
 enum-told-2 c = search needs
 
--- src/word.rt:68:16
 is-letter-or-digit-requires : tie.Need-is-letter-or-digit-requires
 is-letter-or-digit-requires c κs = search needs
 
--- src/word.rt:69:17
 returns-3 : tie.Need-returns-3
 unfolding shapeStep
 returns-3 c = rw (c .before .before .enum-told2 .given .1, ← (c .before .is-letter-or-digit .ensures), c .if3 .taken)
 
--- src/word.rt:74:16
 enum-told-3 : tie.Need-enum-told-3
 enum-told-3 c = search needs
 
--- src/word.rt:74:16
 is-letter-or-digit-requires-2 : tie.Need-is-letter-or-digit-requires-2
 is-letter-or-digit-requires-2 c κs = search needs
 
--- src/word.rt:75:17
 returns-4 : tie.Need-returns-4
 unfolding shapeStep
 returns-4 c = rw (c .before .before .enum-told3 .given .1, ← (c .before .is-letter-or-digit2 .ensures), c .if4 .taken)
 
--- src/word.rt:77:16
 is-joiner-requires : tie.Need-is-joiner-requires
 is-joiner-requires c κs = search needs
 
--- src/word.rt:78:17
 returns-5 : tie.Need-returns-5
 unfolding shapeStep
 returns-5 c = rw (c .before .before .before .before .enum-told3 .given .1, ← (c .before .before .before .is-letter-or-digit2 .ensures), c .before .before .if4 .left, ← (c .before .is-joiner .ensures), c .if5 .taken)
 
--- src/word.rt:83:16
 enum-told-4 : tie.Need-enum-told-4
 enum-told-4 c = search needs
 
--- src/word.rt:83:16
 is-letter-or-digit-requires-3 : tie.Need-is-letter-or-digit-requires-3
 is-letter-or-digit-requires-3 c κs = search needs
 
--- src/word.rt:84:17
 returns-6 : tie.Need-returns-6
 unfolding shapeStep
 returns-6 c = rw (c .before .before .enum-told4 .given .1, ← (c .before .is-letter-or-digit3 .ensures), c .if6 .taken)
 
--- src/word.rt:88:23
 enum-told-5 : tie.Need-enum-told-5
 enum-told-5 c = search needs
 
--- src/word.rt:54:1
 returns-7 : tie.Need-returns-7
 unfolding shapeStep
 returns-7 c = rw (c .before .before .before .enum-told .given .1, ne-eqb _ 95 (c .before .before .if1 .left), ← (c .before .is-letter .ensures), c .if2 .left)
 
--- src/word.rt:54:1
 returns-8 : tie.Need-returns-8
 unfolding shapeStep
 returns-8 c = rw (c .before .before .enum-told2 .given .1, ← (c .before .is-letter-or-digit .ensures), c .if3 .left)
 
--- src/word.rt:54:1
 returns-9 : tie.Need-returns-9
 unfolding shapeStep
 returns-9 c = rw (c .before .before .before .before .enum-told3 .given .1, ← (c .before .before .before .is-letter-or-digit2 .ensures), c .before .before .if4 .left, ← (c .before .is-joiner .ensures), c .if5 .left)
 
--- src/word.rt:54:1
 returns-10 : tie.Need-returns-10
 unfolding shapeStep
 returns-10 c = rw (c .before .before .enum-told4 .given .1, ← (c .before .is-letter-or-digit3 .ensures), c .if6 .left)
 
--- src/word.rt:54:1
 returns-11 : tie.Need-returns-11
 unfolding shapeStep
 returns-11 c = rw (c .enum-told5 .given .1)

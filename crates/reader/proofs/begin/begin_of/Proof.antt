@@ -16,105 +16,80 @@ use Rattle.reader.proofs.begin.integer_leaf.Reads as integer-leaf-reads
 use Rattle.reader.proofs.begin.mark_begin.Reads as mark-begin-reads
 use Rattle.reader.proofs.begin.word_begin.Reads as word-begin-reads
 
--- src/begin.rt:161:25
 enum-known-kind : tie.Need-enum-known-kind
 enum-known-kind c = search needs
 
--- src/begin.rt:161:31
 mark-begin-requires : tie.Need-mark-begin-requires
 mark-begin-requires c κs = search needs
 
--- src/begin.rt:162:39
 enum-told : tie.Need-enum-told
 enum-told c = search needs
 
--- src/begin.rt:162:39
 sub-word-begin : tie.Need-sub-word-begin
 sub-word-begin c = search needs
 
--- src/begin.rt:162:39
 part-word-begin-start : tie.Need-part-word-begin-start
 part-word-begin-start c = search needs
 
--- src/begin.rt:162:39
 part-word-begin-end : tie.Need-part-word-begin-end
 part-word-begin-end c = search needs
 
--- src/begin.rt:162:28
 word-begin-requires : tie.Need-word-begin-requires
 word-begin-requires c κs = search needs
 
--- src/begin.rt:163:25
 enum-known-kind-2 : tie.Need-enum-known-kind-2
 enum-known-kind-2 c = search needs
 
--- src/begin.rt:165:16
 cast-t18 : tie.Need-cast-t18
 cast-t18 c = search needs
 
--- src/begin.rt:166:16
 cast-t19 : tie.Need-cast-t19
 cast-t19 c = search needs
 
--- src/begin.rt:167:16
 cast-t20 : tie.Need-cast-t20
 cast-t20 c = let h = text-fits (c .before .before .before .before .args .sw) (c .before .before .before .before .args .text .now) (c .before .before .before .before .args .start) (c .before .before .before .before .args .stop) (c .before .before .before .before .args .kind) (c .before .before .before .before .pre .0) (c .before .kind2 .given .0 .0) (c .before .kind2 .given .1) in omega arith
 
--- src/begin.rt:169:26
 enum-known-kind-3 : tie.Need-enum-known-kind-3
 enum-known-kind-3 c = search needs
 
--- src/begin.rt:171:16
 cast-t22 : tie.Need-cast-t22
 cast-t22 c = search needs
 
--- src/begin.rt:172:16
 cast-t23 : tie.Need-cast-t23
 cast-t23 c = search needs
 
--- src/begin.rt:173:16
 cast-t24 : tie.Need-cast-t24
 cast-t24 c = let h = bytes-fits (c .before .before .before .before .args .sw) (c .before .before .before .before .args .text .now) (c .before .before .before .before .args .start) (c .before .before .before .before .args .stop) (c .before .before .before .before .args .kind) (c .before .before .before .before .pre .0) (c .before .kind3 .given .0 .0) (c .before .kind3 .given .1) in omega arith
 
--- src/begin.rt:175:28
 enum-known-kind-4 : tie.Need-enum-known-kind-4
 enum-known-kind-4 c = search needs
 
--- src/begin.rt:175:48
 integer-leaf-requires : tie.Need-integer-leaf-requires
 integer-leaf-requires c κs = search needs
 
--- src/begin.rt:176:30
 enum-known-kind-5 : tie.Need-enum-known-kind-5
 enum-known-kind-5 c = search needs
 
--- src/begin.rt:176:61
 decimal-leaf-requires : tie.Need-decimal-leaf-requires
 decimal-leaf-requires c κs = subst (λ (y : ℤ). DecimalFits (c .before .kind5 .given .0 .1 .0) y) (sym (toZ-ofZ {w = w64} {z = c .before .kind5 .given .0 .1 .1 .0} (record { sfits = c .known-told5 .given .1 .1 .0 .1 })))
     (decimal-fits (c .before .before .before .before .args .sw) (c .before .before .before .before .args .text .now) (c .before .before .before .before .args .start) (c .before .before .before .before .args .stop) (c .before .before .before .before .args .kind) (c .before .before .before .before .pre .0) (c .before .kind5 .given .0 .0) (c .before .kind5 .given .0 .1 .0) (c .before .kind5 .given .0 .1 .1 .0) (c .before .kind5 .given .1))
 
--- src/begin.rt:155:1
 returns : tie.Need-returns
 returns c = mark-begun (c .before .before .before .before .before .args .sw) (c .before .before .before .before .before .args .text .now) (c .before .before .before .before .before .args .start) (c .before .before .before .before .before .args .stop) (c .before .before .before .before .before .args .kind) (c .before .before .before .before .before .pre .0) (c .before .before .kind .given .0 .0) (c .mark-begin .result) (c .before .before .kind .given .1) (c .mark-begin .ensures)
 
--- src/begin.rt:155:1
 returns-2 : tie.Need-returns-2
 returns-2 c = word-begun (c .before .before .before .before .before .args .sw) (c .before .before .before .before .before .args .text .now) (c .before .before .before .before .before .args .start) (c .before .before .before .before .before .args .stop) (c .before .before .before .before .before .args .kind) (c .before .before .before .before .before .pre .0) (c .word-begin .result) (c .before .before .enum-told .given .1) (c .word-begin .ensures)
 
--- src/begin.rt:155:1
 returns-3 : tie.Need-returns-3
 returns-3 c = text-begun (c .before .before .before .before .args .sw) (c .before .before .before .before .args .text .now) (c .before .before .before .before .args .start) (c .before .before .before .before .args .stop) (c .before .before .before .before .args .kind) (c .before .before .before .before .pre .0) (c .before .kind2 .given .0 .0) (c .before .kind2 .given .1)
 
--- src/begin.rt:155:1
 returns-4 : tie.Need-returns-4
 returns-4 c = bytes-begun (c .before .before .before .before .args .sw) (c .before .before .before .before .args .text .now) (c .before .before .before .before .args .start) (c .before .before .before .before .args .stop) (c .before .before .before .before .args .kind) (c .before .before .before .before .pre .0) (c .before .kind3 .given .0 .0) (c .before .kind3 .given .1)
 
--- src/begin.rt:155:1
 returns-5 : tie.Need-returns-5
 returns-5 c = integer-begun (c .before .before .before .before .before .args .sw) (c .before .before .before .before .before .args .text .now) (c .before .before .before .before .before .args .start) (c .before .before .before .before .before .args .stop) (c .before .before .before .before .before .args .kind) (c .before .before .before .before .before .pre .0) (c .before .before .kind4 .given .0 .0) (c .integer-leaf .result) (c .before .before .kind4 .given .1)
     (c .integer-leaf .ensures ∙ ap (λ (y : ℤ). leafOf (integer y)) (toZ-ofZ {w = w64} {z = c .before .before .kind4 .given .0 .0} (record { sfits = c .before .known-told4 .given .0 .1 })))
 
--- src/begin.rt:155:1
 returns-6 : tie.Need-returns-6
 returns-6 c = decimal-begun (c .before .before .before .before .before .args .sw) (c .before .before .before .before .before .args .text .now) (c .before .before .before .before .before .args .start) (c .before .before .before .before .before .args .stop) (c .before .before .before .before .before .args .kind) (c .before .before .before .before .before .pre .0) (c .before .before .kind5 .given .0 .0) (c .before .before .kind5 .given .0 .1 .0) (c .before .before .kind5 .given .0 .1 .1 .0) (c .decimal-leaf .result) (c .before .before .kind5 .given .1)
     (c .decimal-leaf .ensures ∙ ap (λ (y : ℤ). leafOf (decimal (c .before .before .kind5 .given .0 .0) (c .before .before .kind5 .given .0 .1 .0) y)) (toZ-ofZ {w = w64} {z = c .before .before .kind5 .given .0 .1 .1 .0} (record { sfits = c .before .known-told5 .given .1 .1 .0 .1 })))

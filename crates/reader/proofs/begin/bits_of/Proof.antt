@@ -6,27 +6,21 @@ use Rattle.reader.proofs.begin.bits_of.Tie as tie
 use Rattle.reader.proofs.begin.bits_of.Reads as reads
 use Rattle.reader.proofs.begin.bits_of.Lts as lts
 
--- src/begin.rt:38:18
 sub-k : tie.Need-sub-k
 sub-k c = rw (over (c .before .args .z) (c .before .fits .z) (c .if1 .taken)) (record { sfits = c .before .fits .z .sfits })
 
--- src/begin.rt:38:17
 cast-k : tie.Need-cast-k
 cast-k c = let f = c .before .fits .z .sfits in rw (over-read (c .before .args .z) (c .before .fits .z) (c .if1 .taken)) (tt, omega arith)
 
--- src/begin.rt:39:16
 sub-result : tie.Need-sub-result
 sub-result c = let f = c .before .fits .z .sfits in rw (over-read (c .before .args .z) (c .before .fits .z) (c .if1 .taken)) (omega arith)
 
--- src/begin.rt:39:9
 returns : tie.Need-returns
 returns c = rw (over-read (c .before .args .z) (c .before .fits .z) (c .if1 .taken)) (neg-bits (c .before .args .z) (c .before .fits .z) (c .if1 .taken))
 
--- src/begin.rt:41:5
 cast-result : tie.Need-cast-result
 cast-result c = let f = c .before .fits .z .sfits in rw (is-pos (c .before .args .z) (c .before .fits .z) (c .if1 .left)) (tt, omega arith)
 
--- src/begin.rt:34:1
 returns-2 : tie.Need-returns-2
 returns-2 c = pos-bits (c .before .args .z) (c .before .fits .z) (c .if1 .left)
 

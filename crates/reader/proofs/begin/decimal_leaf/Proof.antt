@@ -10,27 +10,21 @@ use Rattle.reader.proofs.begin.decimal_leaf.Reads as reads
 use Rattle.reader.proofs.begin.decimal_leaf.Lts as lts
 use Rattle.reader.proofs.begin.power_word.Reads as power-word-reads
 
--- src/begin.rt:71:9
 power-word-requires : tie.Need-power-word-requires
 power-word-requires c κs = rw (toZ-ofZ (c .fits .p)) (c .pre .least, c .pre .greatest)
 
--- src/begin.rt:72:15
 cast-low : tie.Need-cast-low
 cast-low c = search needs
 
--- src/begin.rt:73:16
 cast-high : tie.Need-cast-high
 cast-high c = search needs
 
--- src/begin.rt:78:16
 add-t9 : tie.Need-add-t9
 add-t9 c = search needs
 
--- src/begin.rt:75:9
 returns : tie.Need-returns
 returns c = minus-words (c .before .before .args .minus) (c .before .before .args .m) (c .before .before .args .p) (c .before .power-word .result) (c .before .power-word .ensures ∙ ap plus1000 (toZ-ofZ (c .before .before .fits .p))) (c .if1 .taken)
 
--- src/begin.rt:67:1
 returns-2 : tie.Need-returns-2
 returns-2 c = plain-words (c .before .before .args .minus) (c .before .before .args .m) (c .before .before .args .p) (c .before .power-word .result) (c .before .power-word .ensures ∙ ap plus1000 (toZ-ofZ (c .before .before .fits .p))) (c .if1 .left)
 

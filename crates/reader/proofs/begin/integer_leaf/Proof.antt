@@ -10,19 +10,15 @@ use Rattle.reader.proofs.begin.integer_leaf.Reads as reads
 use Rattle.reader.proofs.begin.integer_leaf.Lts as lts
 use Rattle.reader.proofs.begin.bits_of.Reads as bits-of-reads
 
--- src/begin.rt:47:9
 bits-of-requires : tie.Need-bits-of-requires
 bits-of-requires c κs = search needs
 
--- src/begin.rt:50:12
 cast-t4 : tie.Need-cast-t4
 cast-t4 c = omega arith
 
--- src/begin.rt:51:12
 cast-t6 : tie.Need-cast-t6
 cast-t6 c = omega arith
 
--- src/begin.rt:44:1
 returns : tie.Need-returns
 returns c = integer-words (c .bits-of .result) (c .before .args .z) (c .bits-of .ensures ∙ ap twosComplement (toZ-ofZ (c .before .fits .z)))
 

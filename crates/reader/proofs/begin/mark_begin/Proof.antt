@@ -7,22 +7,18 @@ use Rattle.reader.proofs.begin.mark_begin.Tie as tie
 use Rattle.reader.proofs.begin.mark_begin.Reads as reads
 use Rattle.reader.proofs.begin.mark_begin.Lts as lts
 
--- src/begin.rt:138:9
 returns : tie.Need-returns
 unfolding markBegin
 returns c = rw (eq-eqb _ _ (c .if1 .taken))
 
--- src/begin.rt:141:9
 returns-2 : tie.Need-returns-2
 unfolding markBegin
 returns-2 c = rw (ne-eqb _ _ (c .before .if1 .left), eq-eqb _ _ (c .if2 .taken))
 
--- src/begin.rt:144:9
 returns-3 : tie.Need-returns-3
 unfolding markBegin
 returns-3 c = rw (ne-eqb _ _ (c .before .before .if1 .left), ne-eqb _ _ (c .before .if2 .left), eq-eqb _ _ (c .if3 .taken))
 
--- src/begin.rt:134:1
 returns-4 : tie.Need-returns-4
 unfolding markBegin
 returns-4 c = rw (ne-eqb _ _ (c .before .before .if1 .left), ne-eqb _ _ (c .before .if2 .left), ne-eqb _ _ (c .if3 .left))

@@ -6,23 +6,18 @@ use Rattle.reader.proofs.begin.opens_with_capital.Tie as tie
 use Rattle.reader.proofs.begin.opens_with_capital.Reads as reads
 use Rattle.reader.proofs.begin.opens_with_capital.Lts as lts
 
--- src/begin.rt:93:9
 returns : tie.Need-returns
 returns c = capital-none (c .before .args .word .now) (c .if1 .taken)
 
--- src/begin.rt:95:8
 shared-slice-read-if2 : tie.Need-shared-slice-read-if2
 shared-slice-read-if2 c = search needs
 
--- src/begin.rt:96:9
 returns-2 : tie.Need-returns-2
 returns-2 c = capital-low (c .before .before .before .args .word .now) (c .if2 .taken)
 
--- src/begin.rt:98:5
 shared-slice-read-result : tie.Need-shared-slice-read-result
 shared-slice-read-result c = search needs
 
--- src/begin.rt:89:1
 returns-3 : tie.Need-returns-3
 returns-3 c = capital-from (c .before .before .before .before .args .word .now) (omega arith)
 

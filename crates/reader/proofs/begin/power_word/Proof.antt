@@ -6,15 +6,12 @@ use Rattle.reader.proofs.begin.power_word.Tie as tie
 use Rattle.reader.proofs.begin.power_word.Reads as reads
 use Rattle.reader.proofs.begin.power_word.Lts as lts
 
--- src/begin.rt:64:6
 add-result : tie.Need-add-result
 add-result c = power-fits (c .args .p) (c .fits .p) (c .pre .0) (c .pre .1)
 
--- src/begin.rt:64:5
 cast-result : tie.Need-cast-result
 cast-result c = let h = power-small (c .args .p) (c .fits .p) (c .pre .0) (c .pre .1) in rw (power-read (c .args .p) (c .fits .p) (c .pre .0) (c .pre .1)) (tt, omega arith)
 
--- src/begin.rt:60:1
 returns : tie.Need-returns
 returns c = rw (power-read (c .args .p) (c .fits .p) (c .pre .0) (c .pre .1))
 

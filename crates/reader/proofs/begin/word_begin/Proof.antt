@@ -10,55 +10,43 @@ use Rattle.reader.proofs.begin.word_begin.Lts as lts
 use Rattle.reader.proofs.begin.opens_with_capital.Reads as opens-with-capital-reads
 use Rattle.text.proofs.bytes.same_bytes.Reads as same-bytes-reads
 
--- src/begin.rt:91:25
 slice-aggregate-same-bytes : tie.Need-slice-aggregate-same-bytes
 slice-aggregate-same-bytes c = omega arith
 
--- src/begin.rt:91:8
 same-bytes-requires : tie.Need-same-bytes-requires
 same-bytes-requires c κs = search needs
 
--- src/begin.rt:92:9
 returns : tie.Need-returns
 unfolding wordBegin leafOf scalarNumber scalarWords
 returns c = rw (sym (c .before .same-bytes .ensures) ∙ c .if1 .taken)
 
--- src/begin.rt:99:25
 slice-aggregate-same-bytes-2 : tie.Need-slice-aggregate-same-bytes-2
 slice-aggregate-same-bytes-2 c = omega arith
 
--- src/begin.rt:99:8
 same-bytes-requires-2 : tie.Need-same-bytes-requires-2
 same-bytes-requires-2 c κs = search needs
 
--- src/begin.rt:100:9
 returns-2 : tie.Need-returns-2
 unfolding wordBegin leafOf scalarNumber scalarWords
 returns-2 c = rw (sym (c .before .before .before .before .same-bytes .ensures) ∙ c .before .before .before .if1 .left, sym (c .before .same-bytes2 .ensures) ∙ c .if2 .taken)
 
--- src/begin.rt:107:25
 slice-aggregate-same-bytes-3 : tie.Need-slice-aggregate-same-bytes-3
 slice-aggregate-same-bytes-3 c = omega arith
 
--- src/begin.rt:107:8
 same-bytes-requires-3 : tie.Need-same-bytes-requires-3
 same-bytes-requires-3 c κs = search needs
 
--- src/begin.rt:108:9
 returns-3 : tie.Need-returns-3
 unfolding wordBegin leafOf scalarNumber scalarWords
 returns-3 c = rw (sym (c .before .before .before .before .before .before .before .same-bytes .ensures) ∙ c .before .before .before .before .before .before .if1 .left, sym (c .before .before .before .before .same-bytes2 .ensures) ∙ c .before .before .before .if2 .left, sym (c .before .same-bytes3 .ensures) ∙ c .if3 .taken)
 
--- src/begin.rt:115:8
 opens-with-capital-requires : tie.Need-opens-with-capital-requires
 opens-with-capital-requires c κs = search needs
 
--- src/begin.rt:116:9
 returns-4 : tie.Need-returns-4
 unfolding wordBegin leafOf scalarNumber scalarWords
 returns-4 c = rw (sym (c .before .before .before .before .before .before .before .before .before .same-bytes .ensures) ∙ c .before .before .before .before .before .before .before .before .if1 .left, sym (c .before .before .before .before .before .before .same-bytes2 .ensures) ∙ c .before .before .before .before .before .if2 .left, sym (c .before .before .before .same-bytes3 .ensures) ∙ c .before .before .if3 .left, sym (c .before .opens-with-capital .ensures) ∙ c .if4 .taken)
 
--- src/begin.rt:88:1
 returns-5 : tie.Need-returns-5
 unfolding wordBegin leafOf scalarNumber scalarWords
 returns-5 c = rw (sym (c .before .before .before .before .before .before .before .before .before .same-bytes .ensures) ∙ c .before .before .before .before .before .before .before .before .if1 .left, sym (c .before .before .before .before .before .before .same-bytes2 .ensures) ∙ c .before .before .before .before .before .if2 .left, sym (c .before .before .before .same-bytes3 .ensures) ∙ c .before .before .if3 .left, sym (c .before .opens-with-capital .ensures) ∙ c .if4 .left)

@@ -7,19 +7,15 @@ use Rattle.reader.proofs.content.content.Lts as lts
 use Rattle.reader.proofs.content.content_edition.Reads as content-edition-reads
 use Rattle.text.proofs.switches.present.Reads as present-reads
 
--- src/content.rt:53:21
 present-requires : tie.Need-present-requires
 present-requires c κs = search needs
 
--- src/content.rt:53:5
 content-edition-requires : tie.Need-content-edition-requires
 content-edition-requires c κs = search needs
 
--- src/content.rt:50:1
 same-length : tie.Need-same-length
 same-length c = omega arith
 
--- src/content.rt:50:1
 returns : tie.Need-returns
 returns c = rw (c .before .before .before .before .present .ensures) at (c .before .before .content-edition .ensures)
 

@@ -7,35 +7,27 @@ use Rattle.reader.proofs.content.content_edition.Reads as reads
 use Rattle.reader.proofs.content.content_edition.Lts as lts
 use Rattle.reader.proofs.content.token_content.Reads as token-content-reads
 
--- src/content.rt:38:9
 returns : tie.Need-returns
 returns c = backwards (c .before .before .before .args .sw) (c .before .before .before .args .start) (c .before .before .before .args .end) (c .before .before .before .args .text .now) (c .before .before .before .args .out .now) (omega arith)
 
--- src/content.rt:41:9
 returns-2 : tie.Need-returns-2
 returns-2 c = past (c .before .before .before .before .args .sw) (c .before .before .before .before .args .start) (c .before .before .before .before .args .end) (c .before .before .before .before .args .text .now) (c .before .before .before .before .args .out .now) (omega arith) (omega arith)
 
--- src/content.rt:44:9
 returns-3 : tie.Need-returns-3
 returns-3 c = long (c .before .before .before .before .before .args .sw) (c .before .before .before .before .before .args .start) (c .before .before .before .before .before .args .end) (c .before .before .before .before .before .args .text .now) (c .before .before .before .before .before .args .out .now) (omega arith) (omega arith) (omega arith)
 
--- src/content.rt:46:23
 part-token-content-start : tie.Need-part-token-content-start
 part-token-content-start c = omega arith
 
--- src/content.rt:46:23
 part-token-content-end : tie.Need-part-token-content-end
 part-token-content-end c = omega arith
 
--- src/content.rt:46:5
 token-content-requires : tie.Need-token-content-requires
 token-content-requires c κs = search needs
 
--- src/content.rt:34:1
 same-length : tie.Need-same-length
 same-length c = omega arith
 
--- src/content.rt:34:1
 returns-4 : tie.Need-returns-4
 returns-4 c = rw (spanned (c .before .before .before .before .before .before .before .before .before .before .args .sw) (c .before .before .before .before .before .before .before .before .before .before .args .start) (c .before .before .before .before .before .before .before .before .before .before .args .end) (c .before .before .before .before .before .before .before .before .before .before .args .text .now) (c .before .before .before .before .before .before .before .before .before .before .args .out .now) (omega arith) (omega arith) (omega arith)) (c .before .before .token-content .ensures)
 

@@ -12,51 +12,39 @@ use Rattle.lexer.proofs.item.next_token.Reads as next-token-reads
 use Rattle.reader.proofs.items.closer_of.Reads as closer-of-reads
 use Rattle.reader.proofs.items.is_mark.Reads as is-mark-reads
 
--- src/items.rt:227:9
 closer-of-requires : tie.Need-closer-of-requires
 closer-of-requires c κs = search needs
 
--- src/items.rt:228:11
 next-token-requires : tie.Need-next-token-requires
 next-token-requires c κs = search needs
 
--- src/items.rt:230:19
 enum-known-k : tie.Need-enum-known-k
 enum-known-k c = search needs
 
--- src/items.rt:234:16
 is-mark-requires : tie.Need-is-mark-requires
 is-mark-requires c κs = search needs
 
--- src/items.rt:235:17
 returns : tie.Need-returns
 returns c = record { is = after-closes (c .before .before .before .before .before .before .before .before .args .sw) (c .before .before .before .before .before .before .before .before .args .text .now) (c .before .before .before .before .before .before .before .before .args .kind) (c .before .before .before .before .before .before .before .before .args .from) _ _ _ (peeked (c .before .before .before .before .before .before .before .before .args .sw) (c .before .before .before .before .before .before .before .before .args .text .now) (c .before .before .before .before .before .before .before .before .args .from) _ _ _ (omega arith) (sym (c .before .before .before .before .before .next-token .ensures) ∙ c .before .before .before .k .given .1)) (ap (markIs _) (sym (c .before .before .before .before .before .before .closer-of .ensures)) ∙ sym (c .before .is-mark .ensures) ∙ c .if1 .taken) }
 
--- src/items.rt:237:16
 is-mark-requires-2 : tie.Need-is-mark-requires-2
 is-mark-requires-2 c κs = search needs
 
--- src/items.rt:238:17
 returns-2 : tie.Need-returns-2
 returns-2 c = record { is = after-comma (c .before .before .before .before .before .before .before .before .before .before .args .sw) (c .before .before .before .before .before .before .before .before .before .before .args .text .now) (c .before .before .before .before .before .before .before .before .before .before .args .kind) (c .before .before .before .before .before .before .before .before .before .before .args .from) _ _ _ (peeked (c .before .before .before .before .before .before .before .before .before .before .args .sw) (c .before .before .before .before .before .before .before .before .before .before .args .text .now) (c .before .before .before .before .before .before .before .before .before .before .args .from) _ _ _ (omega arith) (sym (c .before .before .before .before .before .before .before .next-token .ensures) ∙ c .before .before .before .before .before .k .given .1)) (ap (markIs _) (sym (c .before .before .before .before .before .before .before .before .closer-of .ensures)) ∙ sym (c .before .before .before .is-mark .ensures) ∙ c .before .before .if1 .left) (sym (c .before .is-mark2 .ensures) ∙ c .if2 .taken) }
 
--- src/items.rt:242:19
 enum-known-place : tie.Need-enum-known-place
 enum-known-place c = search needs
 
--- src/items.rt:243:23
 enum-known-number : tie.Need-enum-known-number
 enum-known-number c = search needs
 
--- src/items.rt:223:1
 returns-3 : tie.Need-returns-3
 returns-3 c = record { is = after-other (c .before .before .before .before .before .before .before .before .before .before .args .sw) (c .before .before .before .before .before .before .before .before .before .before .args .text .now) (c .before .before .before .before .before .before .before .before .before .before .args .kind) (c .before .before .before .before .before .before .before .before .before .before .args .from) _ _ _ (peeked (c .before .before .before .before .before .before .before .before .before .before .args .sw) (c .before .before .before .before .before .before .before .before .before .before .args .text .now) (c .before .before .before .before .before .before .before .before .before .before .args .from) _ _ _ (omega arith) (sym (c .before .before .before .before .before .before .before .next-token .ensures) ∙ c .before .before .before .before .before .k .given .1)) (ap (markIs _) (sym (c .before .before .before .before .before .before .before .before .closer-of .ensures)) ∙ sym (c .before .before .before .is-mark .ensures) ∙ c .before .before .if1 .left) (sym (c .before .is-mark2 .ensures) ∙ c .if2 .left) }
 
--- src/items.rt:223:1
 returns-4 : tie.Need-returns-4
 returns-4 c = record { is = after-end (c .before .before .before .before .before .before .args .sw) (c .before .before .before .before .before .before .args .text .now) (c .before .before .before .before .before .before .args .kind) (c .before .before .before .before .before .before .args .from) _ (sym (c .before .before .before .next-token .ensures) ∙ c .before .place .given .1) }
 
--- src/items.rt:223:1
 returns-5 : tie.Need-returns-5
 returns-5 c = record { is = after-fault (c .before .before .before .before .before .before .args .sw) (c .before .before .before .before .before .before .args .text .now) (c .before .before .before .before .before .before .args .kind) (c .before .before .before .before .before .before .args .from) _ _ (sym (c .before .before .before .next-token .ensures) ∙ c .before .number .given .1) }
 

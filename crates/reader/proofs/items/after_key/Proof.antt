@@ -10,47 +10,36 @@ use Rattle.reader.proofs.items.after_key.Lts as lts
 use Rattle.lexer.proofs.item.next_token.Reads as next-token-reads
 use Rattle.reader.proofs.items.one_mark.Reads as one-mark-reads
 
--- src/items.rt:176:11
 one-mark-requires : tie.Need-one-mark-requires
 one-mark-requires c κs = search needs
 
--- src/items.rt:177:19
 enum-known-number : tie.Need-enum-known-number
 enum-known-number c = search needs
 
--- src/items.rt:178:18
 enum-known-e : tie.Need-enum-known-e
 enum-known-e c = search needs
 
--- src/items.rt:178:30
 next-token-requires : tie.Need-next-token-requires
 next-token-requires c κs = search needs
 
--- src/items.rt:180:23
 enum-known-k : tie.Need-enum-known-k
 enum-known-k c = search needs
 
--- src/items.rt:190:23
 enum-known-place : tie.Need-enum-known-place
 enum-known-place c = search needs
 
--- src/items.rt:191:27
 enum-known-number-2 : tie.Need-enum-known-number-2
 enum-known-number-2 c = search needs
 
--- src/items.rt:172:1
 returns : tie.Need-returns
 returns c = record { is = key-colon-not (c .before .before .before .before .before .args .sw) (c .before .before .before .before .before .args .text .now) (c .before .before .before .before .before .args .start) (c .before .before .before .before .before .args .stop) _ _ (only-not (c .before .number .given .1) (c .before .before .before .one-mark .ensures)) }
 
--- src/items.rt:172:1
 returns-2 : tie.Need-returns-2
 returns-2 c = record { is = key-value (c .before .before .before .before .before .before .before .before .before .args .sw) (c .before .before .before .before .before .before .before .before .before .args .text .now) (c .before .before .before .before .before .before .before .before .before .args .start) (c .before .before .before .before .before .before .before .before .before .args .stop) _ (only-at (c .before .before .before .before .before .e .given .1) (c .before .before .before .before .before .before .before .one-mark .ensures)) _ _ _ (peeked (c .before .before .before .before .before .before .before .before .before .args .sw) (c .before .before .before .before .before .before .before .before .before .args .text .now) _ _ _ _ (only-at (c .before .before .before .before .before .e .given .1) (c .before .before .before .before .before .before .before .one-mark .ensures) .inside) (sym (c .before .before .before .next-token .ensures) ∙ c .before .k .given .1)) }
 
--- src/items.rt:172:1
 returns-3 : tie.Need-returns-3
 returns-3 c = record { is = key-end (c .before .before .before .before .before .before .before .before .before .args .sw) (c .before .before .before .before .before .before .before .before .before .args .text .now) (c .before .before .before .before .before .before .before .before .before .args .start) (c .before .before .before .before .before .before .before .before .before .args .stop) _ (only-at (c .before .before .before .before .before .e .given .1) (c .before .before .before .before .before .before .before .one-mark .ensures)) _ (sym (c .before .before .before .next-token .ensures) ∙ c .before .place .given .1) }
 
--- src/items.rt:172:1
 returns-4 : tie.Need-returns-4
 returns-4 c = record { is = key-fault (c .before .before .before .before .before .before .before .before .before .args .sw) (c .before .before .before .before .before .before .before .before .before .args .text .now) (c .before .before .before .before .before .before .before .before .before .args .start) (c .before .before .before .before .before .before .before .before .before .args .stop) _ (only-at (c .before .before .before .before .before .e .given .1) (c .before .before .before .before .before .before .before .one-mark .ensures)) _ _ (sym (c .before .before .before .next-token .ensures) ∙ c .before .number2 .given .1) }
 

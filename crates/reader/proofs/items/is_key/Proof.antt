@@ -7,56 +7,44 @@ use Rattle.reader.proofs.items.is_key.Tie as tie
 use Rattle.reader.proofs.items.is_key.Reads as reads
 use Rattle.reader.proofs.items.is_key.Lts as lts
 
--- src/items.rt:63:31
 enum-told : tie.Need-enum-told
 enum-told c = search needs
 
--- src/items.rt:64:28
 enum-told-2 : tie.Need-enum-told-2
 enum-told-2 c = search needs
 
--- src/items.rt:65:31
 enum-told-3 : tie.Need-enum-told-3
 enum-told-3 c = search needs
 
--- src/items.rt:66:32
 enum-told-4 : tie.Need-enum-told-4
 enum-told-4 c = search needs
 
--- src/items.rt:67:34
 enum-told-5 : tie.Need-enum-told-5
 enum-told-5 c = search needs
 
--- src/items.rt:72:14
 enum-told-6 : tie.Need-enum-told-6
 enum-told-6 c = search needs
 
--- src/items.rt:59:1
 returns : tie.Need-returns
 unfolding isKey
 returns c = sym (ap isKey (c .enum-told .given .1))
 
--- src/items.rt:59:1
 returns-2 : tie.Need-returns-2
 unfolding isKey
 returns-2 c = sym (ap isKey (c .enum-told2 .given .1))
 
--- src/items.rt:59:1
 returns-3 : tie.Need-returns-3
 unfolding isKey
 returns-3 c = sym (ap isKey (c .enum-told3 .given .1))
 
--- src/items.rt:59:1
 returns-4 : tie.Need-returns-4
 unfolding isKey
 returns-4 c = sym (ap isKey (c .enum-told4 .given .1))
 
--- src/items.rt:59:1
 returns-5 : tie.Need-returns-5
 unfolding isKey
 returns-5 c = sym (ap isKey (c .enum-told5 .given .1))
 
--- src/items.rt:59:1
 returns-6 : tie.Need-returns-6
 unfolding isKey
 returns-6 c = sym (ap isKey (c .enum-told6 .given .1))

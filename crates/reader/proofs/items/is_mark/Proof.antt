@@ -8,56 +8,44 @@ use Rattle.reader.proofs.items.is_mark.Tie as tie
 use Rattle.reader.proofs.items.is_mark.Reads as reads
 use Rattle.reader.proofs.items.is_mark.Lts as lts
 
--- src/items.rt:46:25
 enum-known-kind : tie.Need-enum-known-kind
 enum-known-kind c = search needs
 
--- src/items.rt:47:28
 enum-told : tie.Need-enum-told
 enum-told c = search needs
 
--- src/items.rt:48:31
 enum-told-2 : tie.Need-enum-told-2
 enum-told-2 c = search needs
 
--- src/items.rt:49:32
 enum-told-3 : tie.Need-enum-told-3
 enum-told-3 c = search needs
 
--- src/items.rt:50:34
 enum-told-4 : tie.Need-enum-told-4
 enum-told-4 c = search needs
 
--- src/items.rt:55:14
 enum-told-5 : tie.Need-enum-told-5
 enum-told-5 c = search needs
 
--- src/items.rt:42:1
 returns : tie.Need-returns
 unfolding markIs
 returns c = sym (ap (λ (x : TokenKind). markIs x (c .before .before .before .args .b)) (c .before .kind .given .1))
 
--- src/items.rt:42:1
 returns-2 : tie.Need-returns-2
 unfolding markIs
 returns-2 c = sym (ap (λ (x : TokenKind). markIs x (c .before .before .args .b)) (c .enum-told .given .1))
 
--- src/items.rt:42:1
 returns-3 : tie.Need-returns-3
 unfolding markIs
 returns-3 c = sym (ap (λ (x : TokenKind). markIs x (c .before .before .args .b)) (c .enum-told2 .given .1))
 
--- src/items.rt:42:1
 returns-4 : tie.Need-returns-4
 unfolding markIs
 returns-4 c = sym (ap (λ (x : TokenKind). markIs x (c .before .before .args .b)) (c .enum-told3 .given .1))
 
--- src/items.rt:42:1
 returns-5 : tie.Need-returns-5
 unfolding markIs
 returns-5 c = sym (ap (λ (x : TokenKind). markIs x (c .before .before .args .b)) (c .enum-told4 .given .1))
 
--- src/items.rt:42:1
 returns-6 : tie.Need-returns-6
 unfolding markIs
 returns-6 c = sym (ap (λ (x : TokenKind). markIs x (c .before .before .args .b)) (c .enum-told5 .given .1))

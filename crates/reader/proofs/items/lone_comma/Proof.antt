@@ -7,29 +7,23 @@ use Rattle.reader.proofs.items.lone_comma.Tie as tie
 use Rattle.reader.proofs.items.lone_comma.Reads as reads
 use Rattle.reader.proofs.items.lone_comma.Lts as lts
 
--- src/items.rt:91:25
 enum-told : tie.Need-enum-told
 enum-told c = search needs
 
--- src/items.rt:92:24
 enum-told-2 : tie.Need-enum-told-2
 enum-told-2 c = search needs
 
--- src/items.rt:93:24
 enum-told-3 : tie.Need-enum-told-3
 enum-told-3 c = search needs
 
--- src/items.rt:87:1
 returns : tie.Need-returns
 unfolding emptyByComma
 returns c = sym (ap (emptyByComma (c .before .before .args .sw)) (c .enum-told .given .1))
 
--- src/items.rt:87:1
 returns-2 : tie.Need-returns-2
 unfolding emptyByComma
 returns-2 c = sym (ap (emptyByComma (c .before .before .args .sw)) (c .enum-told2 .given .1))
 
--- src/items.rt:87:1
 returns-3 : tie.Need-returns-3
 unfolding emptyByComma
 returns-3 c = sym (ap (emptyByComma (c .before .before .args .sw)) (c .enum-told3 .given .1))

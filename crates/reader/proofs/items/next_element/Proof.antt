@@ -15,67 +15,51 @@ use Rattle.reader.proofs.items.is_mark.Reads as is-mark-reads
 use Rattle.reader.proofs.items.one_mark.Reads as one-mark-reads
 use Rattle.reader.proofs.items.opens_empty.Reads as opens-empty-reads
 
--- src/items.rt:142:9
 closer-of-requires : tie.Need-closer-of-requires
 closer-of-requires c κs = search needs
 
--- src/items.rt:143:11
 next-token-requires : tie.Need-next-token-requires
 next-token-requires c κs = search needs
 
--- src/items.rt:145:19
 enum-known-k : tie.Need-enum-known-k
 enum-known-k c = search needs
 
--- src/items.rt:149:16
 is-mark-requires : tie.Need-is-mark-requires
 is-mark-requires c κs = search needs
 
--- src/items.rt:150:17
 returns : tie.Need-returns
 returns c = record { is = item-last (c .before .before .before .before .before .before .before .before .before .args .sw) (c .before .before .before .before .before .before .before .before .before .args .text .now) (c .before .before .before .before .before .before .before .before .before .args .kind) (c .before .before .before .before .before .before .before .before .before .args .table .now) (c .before .before .before .before .before .before .before .before .before .args .from) (c .before .before .before .before .before .before .before .before .before .args .first) (c .before .before .before .before .before .before .before .before .before .args .m) (c .before .before .before .before .before .before .before .before .before .args .children) _ _ _ (peeked (c .before .before .before .before .before .before .before .before .before .args .sw) (c .before .before .before .before .before .before .before .before .before .args .text .now) (c .before .before .before .before .before .before .before .before .before .args .from) _ _ _ (c .before .before .before .before .before .before .before .before .before .pre .0 .inside) (sym (c .before .before .before .before .before .next-token .ensures) ∙ c .before .before .before .k .given .1)) (ap (markIs _) (sym (c .before .before .before .before .before .before .closer-of .ensures)) ∙ sym (c .before .is-mark .ensures) ∙ c .if1 .taken) }
 
--- src/items.rt:152:16
 opens-empty-requires : tie.Need-opens-empty-requires
 opens-empty-requires c κs = search needs
 
--- src/items.rt:153:30
 one-mark-requires : tie.Need-one-mark-requires
 one-mark-requires c κs = let P = peeked (c .before .before .before .before .before .before .before .before .before .before .before .args .sw) (c .before .before .before .before .before .before .before .before .before .before .before .args .text .now) (c .before .before .before .before .before .before .before .before .before .before .before .args .from) _ _ _ (c .before .before .before .before .before .before .before .before .before .before .before .pre .0 .inside) (sym (c .before .before .before .before .before .before .before .next-token .ensures) ∙ c .before .before .before .before .before .k .given .1) in P .token .inside
 
--- src/items.rt:154:30
 enum-known-j : tie.Need-enum-known-j
 enum-known-j c = search needs
 
--- src/items.rt:155:31
 enum-known-number : tie.Need-enum-known-number
 enum-known-number c = search needs
 
--- src/items.rt:153:17
 returns-2 : tie.Need-returns-2
 returns-2 c = record { is = item-lone (c .before .before .before .before .before .before .before .before .before .before .before .before .before .before .before .args .sw) (c .before .before .before .before .before .before .before .before .before .before .before .before .before .before .before .args .text .now) (c .before .before .before .before .before .before .before .before .before .before .before .before .before .before .before .args .kind) (c .before .before .before .before .before .before .before .before .before .before .before .before .before .before .before .args .table .now) (c .before .before .before .before .before .before .before .before .before .before .before .before .before .before .before .args .from) (c .before .before .before .before .before .before .before .before .before .before .before .before .before .before .before .args .first) (c .before .before .before .before .before .before .before .before .before .before .before .before .before .before .before .args .m) (c .before .before .before .before .before .before .before .before .before .before .before .before .before .before .before .args .children) _ _ _ (peeked (c .before .before .before .before .before .before .before .before .before .before .before .before .before .before .before .args .sw) (c .before .before .before .before .before .before .before .before .before .before .before .before .before .before .before .args .text .now) (c .before .before .before .before .before .before .before .before .before .before .before .before .before .before .before .args .from) _ _ _ (c .before .before .before .before .before .before .before .before .before .before .before .before .before .before .before .pre .0 .inside) (sym (c .before .before .before .before .before .before .before .before .before .before .before .next-token .ensures) ∙ c .before .before .before .before .before .before .before .before .before .k .given .1)) (ap (markIs _) (sym (c .before .before .before .before .before .before .before .before .before .before .before .before .closer-of .ensures)) ∙ sym (c .before .before .before .before .before .before .before .is-mark .ensures) ∙ c .before .before .before .before .before .before .if1 .left) (sym (c .before .before .before .before .before .opens-empty .ensures) ∙ c .before .before .before .before .if2 .taken) _ (only-at (c .before .j .given .1) (only-as (c .before .before .before .before .before .before .before .before .before .before .before .before .closer-of .ensures) (c .before .before .before .one-mark .ensures))) }
 
--- src/items.rt:153:17
 returns-3 : tie.Need-returns-3
 returns-3 c = record { is = item-lone-not (c .before .before .before .before .before .before .before .before .before .before .before .before .before .before .before .args .sw) (c .before .before .before .before .before .before .before .before .before .before .before .before .before .before .before .args .text .now) (c .before .before .before .before .before .before .before .before .before .before .before .before .before .before .before .args .kind) (c .before .before .before .before .before .before .before .before .before .before .before .before .before .before .before .args .table .now) (c .before .before .before .before .before .before .before .before .before .before .before .before .before .before .before .args .from) (c .before .before .before .before .before .before .before .before .before .before .before .before .before .before .before .args .first) (c .before .before .before .before .before .before .before .before .before .before .before .before .before .before .before .args .m) (c .before .before .before .before .before .before .before .before .before .before .before .before .before .before .before .args .children) _ _ _ (peeked (c .before .before .before .before .before .before .before .before .before .before .before .before .before .before .before .args .sw) (c .before .before .before .before .before .before .before .before .before .before .before .before .before .before .before .args .text .now) (c .before .before .before .before .before .before .before .before .before .before .before .before .before .before .before .args .from) _ _ _ (c .before .before .before .before .before .before .before .before .before .before .before .before .before .before .before .pre .0 .inside) (sym (c .before .before .before .before .before .before .before .before .before .before .before .next-token .ensures) ∙ c .before .before .before .before .before .before .before .before .before .k .given .1)) (ap (markIs _) (sym (c .before .before .before .before .before .before .before .before .before .before .before .before .closer-of .ensures)) ∙ sym (c .before .before .before .before .before .before .before .is-mark .ensures) ∙ c .before .before .before .before .before .before .if1 .left) (sym (c .before .before .before .before .before .opens-empty .ensures) ∙ c .before .before .before .before .if2 .taken) _ _ (only-not (c .before .number .given .1) (only-as (c .before .before .before .before .before .before .before .before .before .before .before .before .closer-of .ensures) (c .before .before .before .one-mark .ensures))) }
 
--- src/items.rt:166:19
 enum-known-place : tie.Need-enum-known-place
 enum-known-place c = search needs
 
--- src/items.rt:167:23
 enum-known-number-2 : tie.Need-enum-known-number-2
 enum-known-number-2 c = search needs
 
--- src/items.rt:128:1
 returns-4 : tie.Need-returns-4
 returns-4 c = record { is = item-value (c .before .before .before .before .before .before .before .before .before .before .before .args .sw) (c .before .before .before .before .before .before .before .before .before .before .before .args .text .now) (c .before .before .before .before .before .before .before .before .before .before .before .args .kind) (c .before .before .before .before .before .before .before .before .before .before .before .args .table .now) (c .before .before .before .before .before .before .before .before .before .before .before .args .from) (c .before .before .before .before .before .before .before .before .before .before .before .args .first) (c .before .before .before .before .before .before .before .before .before .before .before .args .m) (c .before .before .before .before .before .before .before .before .before .before .before .args .children) _ _ _ (peeked (c .before .before .before .before .before .before .before .before .before .before .before .args .sw) (c .before .before .before .before .before .before .before .before .before .before .before .args .text .now) (c .before .before .before .before .before .before .before .before .before .before .before .args .from) _ _ _ (c .before .before .before .before .before .before .before .before .before .before .before .pre .0 .inside) (sym (c .before .before .before .before .before .before .before .next-token .ensures) ∙ c .before .before .before .before .before .k .given .1)) (c .before .before .before .before .before .before .before .before .before .before .before .pre .0 .short) (c .before .before .before .before .before .before .before .before .before .before .before .pre .1) (ap (markIs _) (sym (c .before .before .before .before .before .before .before .before .closer-of .ensures)) ∙ sym (c .before .before .before .is-mark .ensures) ∙ c .before .before .if1 .left) (sym (c .before .opens-empty .ensures) ∙ c .if2 .left) }
 
--- src/items.rt:128:1
 returns-5 : tie.Need-returns-5
 returns-5 c = record { is = item-end (c .before .before .before .before .before .before .before .args .sw) (c .before .before .before .before .before .before .before .args .text .now) (c .before .before .before .before .before .before .before .args .kind) (c .before .before .before .before .before .before .before .args .table .now) (c .before .before .before .before .before .before .before .args .from) (c .before .before .before .before .before .before .before .args .first) (c .before .before .before .before .before .before .before .args .m) (c .before .before .before .before .before .before .before .args .children) _ (sym (c .before .before .before .next-token .ensures) ∙ c .before .place .given .1) }
 
--- src/items.rt:128:1
 returns-6 : tie.Need-returns-6
 returns-6 c = record { is = item-fault (c .before .before .before .before .before .before .before .args .sw) (c .before .before .before .before .before .before .before .args .text .now) (c .before .before .before .before .before .before .before .args .kind) (c .before .before .before .before .before .before .before .args .table .now) (c .before .before .before .before .before .before .before .args .from) (c .before .before .before .before .before .before .before .args .first) (c .before .before .before .before .before .before .before .args .m) (c .before .before .before .before .before .before .before .args .children) _ _ (sym (c .before .before .before .next-token .ensures) ∙ c .before .number2 .given .1) }
 

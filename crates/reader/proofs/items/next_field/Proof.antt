@@ -22,59 +22,45 @@ use Rattle.reader.proofs.keys.find_key.Reads as find-key-reads
 found-as : {sw : _} {s tab : _} {x m a e : _} {r q : _} → r ≡ q → FoundKey sw s tab x m a e r → FoundKey sw s tab x m a e q
 found-as {sw} {s} {tab} {x} {m} {a} {e} {r} {q} p h = subst (λ (b : Bool). FoundKey sw s tab x m a e b) p h
 
--- src/items.rt:201:11
 next-token-requires : tie.Need-next-token-requires
 next-token-requires c κs = search needs
 
--- src/items.rt:202:23
 enum-known-kind : tie.Need-enum-known-kind
 enum-known-kind c = search needs
 
--- src/items.rt:203:16
 is-mark-requires : tie.Need-is-mark-requires
 is-mark-requires c κs = search needs
 
--- src/items.rt:204:17
 returns : tie.Need-returns
 returns c = record { is = λ z. item-last (c .before .before .before .before .before .before .before .before .args .sw) (c .before .before .before .before .before .before .before .before .args .text .now) Object (c .before .before .before .before .before .before .before .before .args .table .now) (c .before .before .before .before .before .before .before .before .args .from) (c .before .before .before .before .before .before .before .before .args .first) (c .before .before .before .before .before .before .before .before .args .m) z _ _ _ (peeked (c .before .before .before .before .before .before .before .before .args .sw) (c .before .before .before .before .before .before .before .before .args .text .now) (c .before .before .before .before .before .before .before .before .args .from) _ _ _ (c .before .before .before .before .before .before .before .before .pre .inside) (sym (c .before .before .before .before .before .next-token .ensures) ∙ c .before .before .before .kind .given .1)) (sym (c .before .is-mark .ensures) ∙ c .if1 .taken) }
 
--- src/items.rt:206:16
 is-key-requires : tie.Need-is-key-requires
 is-key-requires c κs = search needs
 
--- src/items.rt:207:20
 find-key-requires : tie.Need-find-key-requires
 find-key-requires c κs = let P = peeked (c .before .before .before .before .before .before .before .before .before .before .args .sw) (c .before .before .before .before .before .before .before .before .before .before .args .text .now) (c .before .before .before .before .before .before .before .before .before .before .args .from) _ _ _ (c .before .before .before .before .before .before .before .before .before .before .pre .inside) (sym (c .before .before .before .before .before .before .before .next-token .ensures) ∙ c .before .before .before .before .before .kind .given .1) in (c .before .before .before .before .before .before .before .before .before .before .pre .chained refl, key-here (c .before .before .before .before .before .before .before .before .before .before .args .sw) (c .before .before .before .before .before .before .before .before .before .before .args .text .now) _ _ _ (P .token) (sym (c .before .is-key .ensures) ∙ c .if2 .taken))
 
--- src/items.rt:208:21
 returns-2 : tie.Need-returns-2
 returns-2 c = record { is = λ z. field-twice (c .before .before .before .before .before .before .before .before .before .before .before .before .args .sw) (c .before .before .before .before .before .before .before .before .before .before .before .before .args .text .now) (c .before .before .before .before .before .before .before .before .before .before .before .before .args .table .now) (c .before .before .before .before .before .before .before .before .before .before .before .before .args .from) (c .before .before .before .before .before .before .before .before .before .before .before .before .args .first) (c .before .before .before .before .before .before .before .before .before .before .before .before .args .m) _ _ _ (peeked (c .before .before .before .before .before .before .before .before .before .before .before .before .args .sw) (c .before .before .before .before .before .before .before .before .before .before .before .before .args .text .now) (c .before .before .before .before .before .before .before .before .before .before .before .before .args .from) _ _ _ (c .before .before .before .before .before .before .before .before .before .before .before .before .pre .inside) (sym (c .before .before .before .before .before .before .before .before .before .next-token .ensures) ∙ c .before .before .before .before .before .before .before .kind .given .1)) (sym (c .before .before .before .before .before .is-mark .ensures) ∙ c .before .before .before .before .if1 .left) (sym (c .before .before .before .is-key .ensures) ∙ c .before .before .if2 .taken) (found-as (c .if3 .taken) (c .before .find-key .ensures)) z }
 
--- src/items.rt:210:17
 after-key-requires : tie.Need-after-key-requires
 after-key-requires c κs = let P = peeked (c .before .before .before .before .before .before .before .before .before .before .before .before .args .sw) (c .before .before .before .before .before .before .before .before .before .before .before .before .args .text .now) (c .before .before .before .before .before .before .before .before .before .before .before .before .args .from) _ _ _ (c .before .before .before .before .before .before .before .before .before .before .before .before .pre .inside) (sym (c .before .before .before .before .before .before .before .before .before .next-token .ensures) ∙ c .before .before .before .before .before .before .before .kind .given .1) in P .token .inside
 
--- src/items.rt:210:17
 returns-3 : tie.Need-returns-3
 returns-3 c = record { is = λ z. field-key (c .before .before .before .before .before .before .before .before .before .before .before .before .before .args .sw) (c .before .before .before .before .before .before .before .before .before .before .before .before .before .args .text .now) (c .before .before .before .before .before .before .before .before .before .before .before .before .before .args .table .now) (c .before .before .before .before .before .before .before .before .before .before .before .before .before .args .from) (c .before .before .before .before .before .before .before .before .before .before .before .before .before .args .first) (c .before .before .before .before .before .before .before .before .before .before .before .before .before .args .m) _ _ _ (peeked (c .before .before .before .before .before .before .before .before .before .before .before .before .before .args .sw) (c .before .before .before .before .before .before .before .before .before .before .before .before .before .args .text .now) (c .before .before .before .before .before .before .before .before .before .before .before .before .before .args .from) _ _ _ (c .before .before .before .before .before .before .before .before .before .before .before .before .before .pre .inside) (sym (c .before .before .before .before .before .before .before .before .before .before .next-token .ensures) ∙ c .before .before .before .before .before .before .before .before .kind .given .1)) (sym (c .before .before .before .before .before .before .is-mark .ensures) ∙ c .before .before .before .before .before .if1 .left) (sym (c .before .before .before .before .is-key .ensures) ∙ c .before .before .before .if2 .taken) (c .before .before .before .before .before .before .before .before .before .before .before .before .before .pre .short) (found-as (c .before .if3 .left) (c .before .before .find-key .ensures)) z (c .after-key .result) (c .after-key .ensures .is) }
 
--- src/items.rt:214:19
 enum-known-place : tie.Need-enum-known-place
 enum-known-place c = search needs
 
--- src/items.rt:215:23
 enum-known-number : tie.Need-enum-known-number
 enum-known-number c = search needs
 
--- src/items.rt:197:1
 returns-4 : tie.Need-returns-4
 returns-4 c = record { is = λ z. field-not (c .before .before .before .before .before .before .before .before .before .before .args .sw) (c .before .before .before .before .before .before .before .before .before .before .args .text .now) (c .before .before .before .before .before .before .before .before .before .before .args .table .now) (c .before .before .before .before .before .before .before .before .before .before .args .from) (c .before .before .before .before .before .before .before .before .before .before .args .first) (c .before .before .before .before .before .before .before .before .before .before .args .m) _ _ _ (peeked (c .before .before .before .before .before .before .before .before .before .before .args .sw) (c .before .before .before .before .before .before .before .before .before .before .args .text .now) (c .before .before .before .before .before .before .before .before .before .before .args .from) _ _ _ (c .before .before .before .before .before .before .before .before .before .before .pre .inside) (sym (c .before .before .before .before .before .before .before .next-token .ensures) ∙ c .before .before .before .before .before .kind .given .1)) (sym (c .before .before .before .is-mark .ensures) ∙ c .before .before .if1 .left) (sym (c .before .is-key .ensures) ∙ c .if2 .left) z }
 
--- src/items.rt:197:1
 returns-5 : tie.Need-returns-5
 returns-5 c = record { is = λ z. item-end (c .before .before .before .before .before .before .args .sw) (c .before .before .before .before .before .before .args .text .now) Object (c .before .before .before .before .before .before .args .table .now) (c .before .before .before .before .before .before .args .from) (c .before .before .before .before .before .before .args .first) (c .before .before .before .before .before .before .args .m) z _ (sym (c .before .before .before .next-token .ensures) ∙ c .before .place .given .1) }
 
--- src/items.rt:197:1
 returns-6 : tie.Need-returns-6
 returns-6 c = record { is = λ z. item-fault (c .before .before .before .before .before .before .args .sw) (c .before .before .before .before .before .before .args .text .now) Object (c .before .before .before .before .before .before .args .table .now) (c .before .before .before .before .before .before .args .from) (c .before .before .before .before .before .before .args .first) (c .before .before .before .before .before .before .args .m) z _ _ (sym (c .before .before .before .next-token .ensures) ∙ c .before .number .given .1) }
 

@@ -10,39 +10,30 @@ use Rattle.reader.proofs.items.next_item.Lts as lts
 use Rattle.reader.proofs.items.next_element.Reads as next-element-reads
 use Rattle.reader.proofs.items.next_field.Reads as next-field-reads
 
--- src/items.rt:234:25
 enum-told : tie.Need-enum-told
 enum-told c = search needs
 
--- src/items.rt:234:25
 next-field-requires : tie.Need-next-field-requires
 next-field-requires c κs = look-as Object (c .enum-told .given .1) (c .before .before .before .before .pre)
 
--- src/items.rt:235:24
 enum-told-2 : tie.Need-enum-told-2
 enum-told-2 c = search needs
 
--- src/items.rt:235:24
 next-element-requires : tie.Need-next-element-requires
 next-element-requires c κs = (c .before .before .before .before .pre, no-object (c .before .before .before .before .args .kind) Array (c .enum-told2 .given .1) refl)
 
--- src/items.rt:236:24
 enum-told-3 : tie.Need-enum-told-3
 enum-told-3 c = search needs
 
--- src/items.rt:236:24
 next-element-requires-2 : tie.Need-next-element-requires-2
 next-element-requires-2 c κs = (c .before .before .before .before .pre, no-object (c .before .before .before .before .args .kind) Tuple (c .enum-told3 .given .1) refl)
 
--- src/items.rt:220:1
 returns : tie.Need-returns
 returns c = item-as (c .before .enum-told .given .1) (c .next-field .ensures)
 
--- src/items.rt:220:1
 returns-2 : tie.Need-returns-2
 returns-2 c = c .next-element .ensures
 
--- src/items.rt:220:1
 returns-3 : tie.Need-returns-3
 returns-3 c = c .next-element2 .ensures
 

@@ -9,39 +9,30 @@ use Rattle.reader.proofs.items.one_mark.Lts as lts
 use Rattle.lexer.proofs.item.next_token.Reads as next-token-reads
 use Rattle.reader.proofs.items.is_mark.Reads as is-mark-reads
 
--- src/items.rt:102:11
 next-token-requires : tie.Need-next-token-requires
 next-token-requires c κs = search needs
 
--- src/items.rt:103:23
 enum-known-kind : tie.Need-enum-known-kind
 enum-known-kind c = search needs
 
--- src/items.rt:104:16
 is-mark-requires : tie.Need-is-mark-requires
 is-mark-requires c κs = search needs
 
--- src/items.rt:105:17
 returns : tie.Need-returns
 returns c = record { is = marked (c .before .before .before .before .before .before .before .args .sw) (c .before .before .before .before .before .before .before .args .text .now) (c .before .before .before .before .before .before .before .args .from) (c .before .before .before .before .before .before .before .args .want) _ _ _ (peeked (c .before .before .before .before .before .before .before .args .sw) (c .before .before .before .before .before .before .before .args .text .now) (c .before .before .before .before .before .before .before .args .from) _ _ _ (omega arith) (sym (c .before .before .before .before .before .next-token .ensures) ∙ c .before .before .before .kind .given .1)) (sym (c .before .is-mark .ensures) ∙ c .if1 .taken) }
 
--- src/items.rt:109:19
 enum-known-place : tie.Need-enum-known-place
 enum-known-place c = search needs
 
--- src/items.rt:110:23
 enum-known-number : tie.Need-enum-known-number
 enum-known-number c = search needs
 
--- src/items.rt:98:1
 returns-2 : tie.Need-returns-2
 returns-2 c = record { is = not-marked (c .before .before .before .before .before .before .before .args .sw) (c .before .before .before .before .before .before .before .args .text .now) (c .before .before .before .before .before .before .before .args .from) (c .before .before .before .before .before .before .before .args .want) _ _ _ (peeked (c .before .before .before .before .before .before .before .args .sw) (c .before .before .before .before .before .before .before .args .text .now) (c .before .before .before .before .before .before .before .args .from) _ _ _ (omega arith) (sym (c .before .before .before .before .before .next-token .ensures) ∙ c .before .before .before .kind .given .1)) (sym (c .before .is-mark .ensures) ∙ c .if1 .left) }
 
--- src/items.rt:98:1
 returns-3 : tie.Need-returns-3
 returns-3 c = record { is = not-end (c .before .before .before .before .before .args .sw) (c .before .before .before .before .before .args .text .now) (c .before .before .before .before .before .args .from) (c .before .before .before .before .before .args .want) _ (sym (c .before .before .before .next-token .ensures) ∙ c .before .place .given .1) }
 
--- src/items.rt:98:1
 returns-4 : tie.Need-returns-4
 returns-4 c = record { is = not-fault (c .before .before .before .before .before .args .sw) (c .before .before .before .before .before .args .text .now) (c .before .before .before .before .before .args .from) (c .before .before .before .before .before .args .want) _ _ (sym (c .before .before .before .next-token .ensures) ∙ c .before .number .given .1) }
 

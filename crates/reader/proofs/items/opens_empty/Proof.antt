@@ -9,23 +9,18 @@ use Rattle.reader.proofs.items.opens_empty.Lts as lts
 use Rattle.reader.proofs.items.is_mark.Reads as is-mark-reads
 use Rattle.reader.proofs.items.lone_comma.Reads as lone-comma-reads
 
--- src/items.rt:119:12
 is-mark-requires : tie.Need-is-mark-requires
 is-mark-requires c κs = search needs
 
--- src/items.rt:120:13
 lone-comma-requires : tie.Need-lone-comma-requires
 lone-comma-requires c κs = search needs
 
--- src/items.rt:120:13
 returns : tie.Need-returns
 returns c = rw (eq-eqb _ _ (c .before .before .before .if1 .taken), sym (c .before .before .is-mark .ensures) ∙ c .before .if2 .taken) (c .lone-comma .ensures)
 
--- src/items.rt:122:9
 returns-2 : tie.Need-returns-2
 returns-2 c = rw (eq-eqb _ _ (c .before .before .if1 .taken), sym (c .before .is-mark .ensures) ∙ c .if2 .left)
 
--- src/items.rt:115:1
 returns-3 : tie.Need-returns-3
 returns-3 c = rw (ne-eqb _ _ (c .if1 .left))
 

@@ -17,89 +17,68 @@ Inv-loop sw text table from end a e x₀ x = (K : KeyHere sw text a e) × Walk s
 abbrev μ-loop : tie.MeasureT-loop
 μ-loop sw text table from end a e x₀ x = end - x
 
--- src/keys.rt:22:5
 loop-holds : tie.Need-loop-holds Inv-loop μ-loop
 loop-holds c = (c .before .before .pre .1, walk-start _ _ _ _ _ _ (c .before .before .pre .0))
 
--- src/keys.rt:23:29
 mul-word : tie.Need-mul-word Inv-loop μ-loop
 mul-word c = let L = walk-row _ _ _ _ _ _ _ (c .before .loop .inv .1) (omega arith) .1 in omega arith
 
--- src/keys.rt:23:29
 add-word : tie.Need-add-word Inv-loop μ-loop
 add-word c = let L = walk-row _ _ _ _ _ _ _ (c .before .loop .inv .1) (omega arith) .1 in omega arith
 
--- src/keys.rt:23:13
 word-requires : tie.Need-word-requires Inv-loop μ-loop
 word-requires c κs = let L = walk-row _ _ _ _ _ _ _ (c .before .loop .inv .1) (omega arith) .1 in omega arith
 
--- src/keys.rt:24:29
 mul-word-2 : tie.Need-mul-word-2 Inv-loop μ-loop
 mul-word-2 c = let L = walk-row _ _ _ _ _ _ _ (c .before .before .loop .inv .1) (omega arith) .1 in omega arith
 
--- src/keys.rt:24:29
 add-word-2 : tie.Need-add-word-2 Inv-loop μ-loop
 add-word-2 c = let L = walk-row _ _ _ _ _ _ _ (c .before .before .loop .inv .1) (omega arith) .1 in omega arith
 
--- src/keys.rt:24:13
 word-requires-2 : tie.Need-word-requires-2 Inv-loop μ-loop
 word-requires-2 c κs = let L = walk-row _ _ _ _ _ _ _ (c .before .before .loop .inv .1) (omega arith) .1 in omega arith
 
--- src/keys.rt:25:26
 sub-same-keys : tie.Need-sub-same-keys Inv-loop μ-loop
 sub-same-keys c = let K = walk-key _ _ _ _ _ _ _ _ _ (c .before .before .before .loop .inv .1) (omega arith) (c .before .word .ensures) (c .word2 .ensures) .1 in let o = K .ordered in omega arith
 
--- src/keys.rt:25:26
 part-same-keys-start : tie.Need-part-same-keys-start Inv-loop μ-loop
 part-same-keys-start c = let K = walk-key _ _ _ _ _ _ _ _ _ (c .before .before .before .loop .inv .1) (omega arith) (c .before .word .ensures) (c .word2 .ensures) .1 in let o = K .ordered in let i = K .inside in omega arith
 
--- src/keys.rt:25:26
 part-same-keys-end : tie.Need-part-same-keys-end Inv-loop μ-loop
 part-same-keys-end c = let K = walk-key _ _ _ _ _ _ _ _ _ (c .before .before .before .loop .inv .1) (omega arith) (c .before .word .ensures) (c .word2 .ensures) .1 in let o = K .ordered in let i = K .inside in omega arith
 
--- src/keys.rt:25:39
 sub-same-keys-2 : tie.Need-sub-same-keys-2 Inv-loop μ-loop
 sub-same-keys-2 c = let o = c .before .before .before .before .before .before .before .pre .1 .key .ordered in omega arith
 
--- src/keys.rt:25:39
 part-same-keys-start-2 : tie.Need-part-same-keys-start-2 Inv-loop μ-loop
 part-same-keys-start-2 c = let o = c .before .before .before .before .before .before .before .pre .1 .key .ordered in let i = c .before .before .before .before .before .before .before .pre .1 .key .inside in omega arith
 
--- src/keys.rt:25:39
 part-same-keys-end-2 : tie.Need-part-same-keys-end-2 Inv-loop μ-loop
 part-same-keys-end-2 c = let o = c .before .before .before .before .before .before .before .pre .1 .key .ordered in let i = c .before .before .before .before .before .before .before .pre .1 .key .inside in omega arith
 
--- src/keys.rt:25:12
 same-keys-requires : tie.Need-same-keys-requires Inv-loop μ-loop
 same-keys-requires c κs = (keyed _ _ _ _ _ (walk-key _ _ _ _ _ _ _ _ _ (c .before .before .before .before .before .loop .inv .1) (omega arith) (c .before .before .before .word .ensures) (c .before .before .word2 .ensures) .1), keyed _ _ _ _ _ (c .before .before .before .before .before .loop .inv .0 .key))
 
--- src/keys.rt:26:13
 returns : tie.Need-returns Inv-loop μ-loop
 returns c = let K = walk-key _ _ _ _ _ _ _ _ _ (c .before .before .before .before .before .before .before .loop .inv .1) (omega arith) (c .before .before .before .before .before .word .ensures) (c .before .before .before .before .word2 .ensures) in
     walk-hit _ _ _ _ _ _ _ _ (c .before .before .before .before .before .before .before .loop .inv .0 .key) _ _ _ (c .before .before .before .before .before .before .before .loop .inv .1) (omega arith) (c .before .before .before .before .before .word .ensures) (c .before .before .before .before .word2 .ensures) (K .0) (K .1) (sym (same-told _ _ _ _ _ _ _ _ _ (K .1) (c .before .before .before .before .before .before .before .loop .inv .0 .key) (c .before .same-keys .ensures)) ∙ c .if1 .taken)
 
--- src/keys.rt:28:25
 mul-word-3 : tie.Need-mul-word-3 Inv-loop μ-loop
 mul-word-3 c = let L = walk-row _ _ _ _ _ _ _ (c .before .before .before .before .before .before .before .loop .inv .1) (omega arith) .1 in omega arith
 
--- src/keys.rt:28:25
 add-word-3 : tie.Need-add-word-3 Inv-loop μ-loop
 add-word-3 c = let L = walk-row _ _ _ _ _ _ _ (c .before .before .before .before .before .before .before .loop .inv .1) (omega arith) .1 in omega arith
 
--- src/keys.rt:28:9
 word-requires-3 : tie.Need-word-requires-3 Inv-loop μ-loop
 word-requires-3 c κs = let L = walk-row _ _ _ _ _ _ _ (c .before .before .before .before .before .before .before .loop .inv .1) (omega arith) .1 in omega arith
 
--- src/keys.rt:22:5
 loop-less : tie.Need-loop-less Inv-loop μ-loop
 loop-less c = let L = walk-row _ _ _ _ _ _ _ (c .before .before .before .before .before .before .before .before .loop .inv .1) (omega arith) .1 in let e = c .word3 .ensures in omega arith
 
--- src/keys.rt:22:5
 loop-again : tie.Need-loop-again Inv-loop μ-loop
 loop-again c = let K = walk-key _ _ _ _ _ _ _ _ _ (c .before .before .before .before .before .before .before .before .loop .inv .1) (omega arith) (c .before .before .before .before .before .before .word .ensures) (c .before .before .before .before .before .word2 .ensures) in
     (c .before .before .before .before .before .before .before .before .loop .inv .0, walk-on _ _ _ _ _ _ _ _ _ _ (c .before .before .before .before .before .before .before .before .loop .inv .1) (omega arith) (c .before .before .before .before .before .before .word .ensures) (c .before .before .before .before .before .word2 .ensures) (c .word3 .ensures) (K .0) (K .1) (sym (same-told _ _ _ _ _ _ _ _ _ (K .1) (c .before .before .before .before .before .before .before .before .loop .inv .0 .key) (c .before .before .same-keys .ensures)) ∙ c .before .if1 .left))
 
--- src/keys.rt:8:1
 returns-2 : tie.Need-returns-2 Inv-loop μ-loop
 returns-2 c = walk-end _ _ _ _ _ _ _ _ (c .before .loop .inv .0 .key) _ (c .before .loop .inv .1) (omega arith)
 

@@ -11,27 +11,21 @@ use Rattle.reader.proofs.read.judge.Lts as lts
 use Rattle.reader.proofs.read.read_whole.Reads as read-whole-reads
 use Rattle.text.proofs.utf8.valid_front.Reads as valid-front-reads
 
--- src/read.rt:72:9
 returns : tie.Need-returns
 returns c = record { is = too-long (c .before .before .before .args .sw) (c .before .before .before .args .limits) (c .before .before .before .args .any) (c .before .before .before .args .text .now) (c .if1 .taken) }
 
--- src/read.rt:74:9
 valid-front-requires : tie.Need-valid-front-requires
 valid-front-requires c κs = search needs
 
--- src/read.rt:76:9
 returns-2 : tie.Need-returns-2
 returns-2 c = record { is = not-utf8 (c .before .before .before .before .before .args .sw) (c .before .before .before .before .before .args .limits) (c .before .before .before .before .before .args .any) (c .before .before .before .before .before .args .text .now) _ (c .before .before .if1 .left) (c .before .valid-front .ensures) (c .if2 .taken) }
 
--- src/read.rt:78:5
 read-whole-requires : tie.Need-read-whole-requires
 read-whole-requires c κs = record { counted = λ e. absurd (true≢false e); short = c .before .before .before .if1 .left; below = zero-le; room = c .before .before .before .before .before .before .pre .0; small = c .before .before .before .before .before .before .pre .1 }
 
--- src/read.rt:67:1
 same-length : tie.Need-same-length
 same-length c = c .before .before .read-whole .kept .1 .1 .1 .0
 
--- src/read.rt:67:1
 returns-3 : tie.Need-returns-3
 returns-3 c = judged (c .before .before .before .before .before .before .before .before .before .args .sw) (c .before .before .before .before .before .before .before .before .before .args .limits) (c .before .before .before .before .before .before .before .before .before .args .any) (c .before .before .before .before .before .before .before .before .before .args .text .now) _ _ _ _ (c .before .before .before .before .before .before .if1 .left) (c .before .before .before .before .before .valid-front .ensures) (c .before .before .before .before .if2 .left) (c .before .before .read-whole .ensures)
 

@@ -7,11 +7,9 @@ use Rattle.reader.proofs.read.node_limit.Tie as tie
 use Rattle.reader.proofs.read.node_limit.Reads as reads
 use Rattle.reader.proofs.read.node_limit.Lts as lts
 
--- src/read.rt:87:9
 returns : tie.Need-returns
 returns c = limit-low (c .before .args .words) _ refl (c .if1 .taken)
 
--- src/read.rt:82:1
 returns-2 : tie.Need-returns-2
 returns-2 c = limit-high (c .before .args .words) _ refl (c .if1 .left)
 

@@ -12,33 +12,26 @@ use Rattle.reader.proofs.read.one_value.Reads as reads
 use Rattle.reader.proofs.read.one_value.Lts as lts
 use Rattle.reader.proofs.read.judge.Reads as judge-reads
 
--- src/read.rt:130:35
 slice-aggregate-judge : tie.Need-slice-aggregate-judge
 slice-aggregate-judge c = omega arith
 
--- src/read.rt:130:11
 judge-requires : tie.Need-judge-requires
 judge-requires c κs = let l = length-replicate {A = ℕ} 49152 0 in (omega arith, omega arith)
 
--- src/read.rt:132:13
 enum-known-start : tie.Need-enum-known-start
 enum-known-start c = search needs
 
--- src/read.rt:137:17
 returns : tie.Need-returns
 unfolding limitsAlone
 returns c = alone-taken (c .before .before .before .before .before .before .before .before .args .sw) (c .before .before .before .before .before .before .before .before .args .any) (c .before .before .before .before .before .before .before .before .args .text .now) _ _ _ _ _ _ _ refl (tree-is (c .before .before .start .given .1) (c .before .before .before .before .before .judge .ensures)) (rw (eq-eqb _ _ (c .if1 .taken)))
 
--- src/read.rt:141:33
 enum-told : tie.Need-enum-told
 enum-told c = search needs
 
--- src/read.rt:122:1
 returns-2 : tie.Need-returns-2
 unfolding limitsAlone
 returns-2 c = alone-taken (c .before .before .before .before .before .before .before .before .args .sw) (c .before .before .before .before .before .before .before .before .args .any) (c .before .before .before .before .before .before .before .before .args .text .now) _ _ _ _ _ _ _ refl (tree-is (c .before .before .start .given .1) (c .before .before .before .before .before .judge .ensures)) (rw (ne-eqb _ _ (c .if1 .left)))
 
--- src/read.rt:122:1
 returns-3 : tie.Need-returns-3
 unfolding limitsAlone
 returns-3 c = alone-refused (c .before .before .before .before .before .before .args .sw) (c .before .before .before .before .before .before .args .any) (c .before .before .before .before .before .before .args .text .now) _ _ _ refl (tree-not (c .enum-told .given .1) (c .before .before .before .judge .ensures))

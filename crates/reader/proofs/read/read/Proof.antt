@@ -10,19 +10,15 @@ use Rattle.reader.proofs.read.read.Lts as lts
 use Rattle.reader.proofs.read.read_edition.Reads as read-edition-reads
 use Rattle.text.proofs.switches.present.Reads as present-reads
 
--- src/read.rt:118:18
 present-requires : tie.Need-present-requires
 present-requires c κs = search needs
 
--- src/read.rt:118:5
 read-edition-requires : tie.Need-read-edition-requires
 read-edition-requires c κs = search needs
 
--- src/read.rt:115:1
 same-length : tie.Need-same-length
 same-length c = c .before .before .read-edition .kept .1 .1 .0
 
--- src/read.rt:115:1
 returns : tie.Need-returns
 returns c = rw (c .before .before .before .before .present .ensures) at (c .before .before .read-edition .ensures)
 

@@ -19,43 +19,33 @@ at-words : (words long nodes : ℕ) → nodes ≡ nodeLimit long → long ≡ wo
 unfolding limitsOf
 at-words words long nodes e l = ap (λ (n : ℕ). record { depth = 32; nodes = n }) (e ∙ ap nodeLimit l)
 
--- src/read.rt:96:5
 clear-requires : tie.Need-clear-requires
 clear-requires c κs = search needs
 
--- src/read.rt:99:16
 node-limit-requires : tie.Need-node-limit-requires
 node-limit-requires c κs = search needs
 
--- src/read.rt:101:11
 judge-requires : tie.Need-judge-requires
 judge-requires c κs = limit-fits _ _ (c .before .node-limit .ensures)
 
--- src/read.rt:105:13
 enum-known-nodes : tie.Need-enum-known-nodes
 enum-known-nodes c = search needs
 
--- src/read.rt:107:24
 enum-known-number : tie.Need-enum-known-number
 enum-known-number c = search needs
 
--- src/read.rt:108:13
 clear-requires-2 : tie.Need-clear-requires-2
 clear-requires-2 c κs = search needs
 
--- src/read.rt:93:1
 same-length : tie.Need-same-length
 same-length c = c .before .before .before .before .before .judge .kept .1 .1 .1 .0 ∙ c .before .before .before .before .before .before .before .before .before .before .clear .kept .0
 
--- src/read.rt:93:1
 returns : tie.Need-returns
 returns c = read-taken (c .before .before .before .before .before .before .before .before .before .before .before .before .before .before .args .sw) (c .before .before .before .before .before .before .before .before .before .before .before .before .before .before .args .text .now) (length (c .before .before .before .before .before .before .before .before .before .before .before .before .before .before .args .table .now)) _ (at-words _ _ _ (c .before .before .before .before .before .before .before .node-limit .ensures) (c .before .before .before .before .before .before .before .before .before .before .clear .kept .0)) _ (c .before .before .before .before .before .before .before .before .before .before .clear .ensures) _ _ _ _ (tree-is (c .before .nodes .given .1) (c .before .before .before .before .before .judge .ensures))
 
--- src/read.rt:93:1
 same-length-2 : tie.Need-same-length-2
 same-length-2 c = c .before .before .clear2 .kept .0 ∙ c .before .before .before .before .before .before .before .before .before .judge .kept .1 .1 .1 .0 ∙ c .before .before .before .before .before .before .before .before .before .before .before .before .before .before .clear .kept .0
 
--- src/read.rt:93:1
 returns-2 : tie.Need-returns-2
 returns-2 c = read-refused (c .before .before .before .before .before .before .before .before .before .before .before .before .before .before .before .before .before .before .args .sw) (c .before .before .before .before .before .before .before .before .before .before .before .before .before .before .before .before .before .before .args .text .now) (length (c .before .before .before .before .before .before .before .before .before .before .before .before .before .before .before .before .before .before .args .table .now)) _ (at-words _ _ _ (c .before .before .before .before .before .before .before .before .before .before .before .node-limit .ensures) (c .before .before .before .before .before .before .before .before .before .before .before .before .before .before .clear .kept .0)) _ (c .before .before .before .before .before .before .before .before .before .before .before .before .before .before .clear .ensures) (c .before .before .before .before .before .before .before .before .before .judge .last .1 .1 .1 .0) _ _ _ (c .before .before .before .before .before .before .before .before .before .judge .kept .1 .1 .1 .0) (c .before .before .clear2 .ensures) (tree-not (c .before .before .before .before .before .number .given .1) (c .before .before .before .before .before .before .before .before .before .judge .ensures))
 

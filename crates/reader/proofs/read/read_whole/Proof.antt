@@ -13,87 +13,66 @@ use Rattle.reader.proofs.read.read_whole.Lts as lts
 use Rattle.lexer.proofs.item.next_token.Reads as next-token-reads
 use Rattle.reader.proofs.values.read_value.Reads as read-value-reads
 
--- src/read.rt:41:11
 next-token-requires : tie.Need-next-token-requires
 next-token-requires c κs = search needs
 
--- src/read.rt:42:23
 enum-known-kind : tie.Need-enum-known-kind
 enum-known-kind c = search needs
 
--- src/read.rt:42:51
 read-value-requires : tie.Need-read-value-requires
 read-value-requires c κs = (c .before .before .before .before .before .before .before .pre, (peeked (c .before .before .before .before .before .before .before .args .sw) (c .before .before .before .before .before .before .before .args .text .now) 0 _ _ _ (omega arith) (sym (c .before .before .before .before .next-token .ensures) ∙ c .before .before .kind .given .1) .token, record { sane = λ _. refl; starts = omega arith; ends = omega arith }))
 
--- src/read.rt:43:29
 enum-known-number : tie.Need-enum-known-number
 enum-known-number c = search needs
 
--- src/read.rt:44:26
 enum-known-j : tie.Need-enum-known-j
 enum-known-j c = search needs
 
--- src/read.rt:44:41
 next-token-requires-2 : tie.Need-next-token-requires-2
 next-token-requires-2 c κs = search needs
 
--- src/read.rt:45:33
 enum-told : tie.Need-enum-told
 enum-told c = search needs
 
--- src/read.rt:52:28
 enum-known-p : tie.Need-enum-known-p
 enum-known-p c = search needs
 
--- src/read.rt:56:29
 enum-known-f : tie.Need-enum-known-f
 enum-known-f c = search needs
 
--- src/read.rt:61:19
 enum-known-place : tie.Need-enum-known-place
 enum-known-place c = search needs
 
--- src/read.rt:62:23
 enum-known-number-2 : tie.Need-enum-known-number-2
 enum-known-number-2 c = search needs
 
--- src/read.rt:37:1
 same-length : tie.Need-same-length
 same-length c = c .before .before .before .before .before .read-value .kept .1 .1 .1 .0
 
--- src/read.rt:37:1
 returns : tie.Need-returns
 returns c = record { is = whole-stops (c .before .before .before .before .before .before .before .before .before .before .before .before .before .args .sw) (c .before .before .before .before .before .before .before .before .before .before .before .before .before .args .limits) (c .before .before .before .before .before .before .before .before .before .before .before .before .before .args .any) (c .before .before .before .before .before .before .before .before .before .before .before .before .before .args .text .now) _ _ _ (peeked (c .before .before .before .before .before .before .before .before .before .before .before .before .before .args .sw) (c .before .before .before .before .before .before .before .before .before .before .before .before .before .args .text .now) 0 _ _ _ (omega arith) (sym (c .before .before .before .before .before .before .before .before .before .before .next-token .ensures) ∙ c .before .before .before .before .before .before .before .before .kind .given .1)) _ _ (stops (c .before .number .given .1) (c .before .before .before .before .before .read-value .ensures)) }
 
--- src/read.rt:37:1
 same-length-2 : tie.Need-same-length-2
 same-length-2 c = c .before .before .before .before .before .before .before .before .read-value .kept .1 .1 .1 .0
 
--- src/read.rt:37:1
 returns-2 : tie.Need-returns-2
 returns-2 c = record { is = whole-taken (c .before .before .before .before .before .before .before .before .before .before .before .before .before .before .before .before .args .sw) (c .before .before .before .before .before .before .before .before .before .before .before .before .before .before .before .before .args .limits) (c .before .before .before .before .before .before .before .before .before .before .before .before .before .before .before .before .args .any) (c .before .before .before .before .before .before .before .before .before .before .before .before .before .before .before .before .args .text .now) _ _ _ (peeked (c .before .before .before .before .before .before .before .before .before .before .before .before .before .before .before .before .args .sw) (c .before .before .before .before .before .before .before .before .before .before .before .before .before .before .before .before .args .text .now) 0 _ _ _ (omega arith) (sym (c .before .before .before .before .before .before .before .before .before .before .before .before .before .next-token .ensures) ∙ c .before .before .before .before .before .before .before .before .before .before .before .kind .given .1)) _ _ _ _ (took (c .before .before .before .before .j .given .1) (c .before .before .before .before .before .before .before .before .read-value .ensures)) _ (sym (c .before .before .next-token2 .ensures) ∙ c .enum-told .given .1) }
 
--- src/read.rt:37:1
 same-length-3 : tie.Need-same-length-3
 same-length-3 c = c .before .before .before .before .before .before .before .before .before .read-value .kept .1 .1 .1 .0
 
--- src/read.rt:37:1
 returns-3 : tie.Need-returns-3
 returns-3 c = record { is = whole-more (c .before .before .before .before .before .before .before .before .before .before .before .before .before .before .before .before .before .args .sw) (c .before .before .before .before .before .before .before .before .before .before .before .before .before .before .before .before .before .args .limits) (c .before .before .before .before .before .before .before .before .before .before .before .before .before .before .before .before .before .args .any) (c .before .before .before .before .before .before .before .before .before .before .before .before .before .before .before .before .before .args .text .now) _ _ _ (peeked (c .before .before .before .before .before .before .before .before .before .before .before .before .before .before .before .before .before .args .sw) (c .before .before .before .before .before .before .before .before .before .before .before .before .before .before .before .before .before .args .text .now) 0 _ _ _ (omega arith) (sym (c .before .before .before .before .before .before .before .before .before .before .before .before .before .before .next-token .ensures) ∙ c .before .before .before .before .before .before .before .before .before .before .before .before .kind .given .1)) _ _ _ _ (took (c .before .before .before .before .before .j .given .1) (c .before .before .before .before .before .before .before .before .before .read-value .ensures)) _ _ _ (peeked (c .before .before .before .before .before .before .before .before .before .before .before .before .before .before .before .before .before .args .sw) (c .before .before .before .before .before .before .before .before .before .before .before .before .before .before .before .before .before .args .text .now) _ _ _ _ (took (c .before .before .before .before .before .j .given .1) (c .before .before .before .before .before .before .before .before .before .read-value .ensures) .inside) (sym (c .before .before .before .next-token2 .ensures) ∙ c .before .p .given .1)) }
 
--- src/read.rt:37:1
 same-length-4 : tie.Need-same-length-4
 same-length-4 c = c .before .before .before .before .before .before .before .before .before .read-value .kept .1 .1 .1 .0
 
--- src/read.rt:37:1
 returns-4 : tie.Need-returns-4
 returns-4 c = record { is = whole-bad (c .before .before .before .before .before .before .before .before .before .before .before .before .before .before .before .before .before .args .sw) (c .before .before .before .before .before .before .before .before .before .before .before .before .before .before .before .before .before .args .limits) (c .before .before .before .before .before .before .before .before .before .before .before .before .before .before .before .before .before .args .any) (c .before .before .before .before .before .before .before .before .before .before .before .before .before .before .before .before .before .args .text .now) _ _ _ (peeked (c .before .before .before .before .before .before .before .before .before .before .before .before .before .before .before .before .before .args .sw) (c .before .before .before .before .before .before .before .before .before .before .before .before .before .before .before .before .before .args .text .now) 0 _ _ _ (omega arith) (sym (c .before .before .before .before .before .before .before .before .before .before .before .before .before .before .next-token .ensures) ∙ c .before .before .before .before .before .before .before .before .before .before .before .before .kind .given .1)) _ _ _ _ (took (c .before .before .before .before .before .j .given .1) (c .before .before .before .before .before .before .before .before .before .read-value .ensures)) _ _ (sym (c .before .before .before .next-token2 .ensures) ∙ c .before .f .given .1) }
 
--- src/read.rt:37:1
 returns-5 : tie.Need-returns-5
 returns-5 c = record { is = whole-end (c .before .before .before .before .before .before .args .sw) (c .before .before .before .before .before .before .args .limits) (c .before .before .before .before .before .before .args .any) (c .before .before .before .before .before .before .args .text .now) _ (sym (c .before .before .before .next-token .ensures) ∙ c .before .place .given .1) }
 
--- src/read.rt:37:1
 returns-6 : tie.Need-returns-6
 returns-6 c = record { is = whole-fault (c .before .before .before .before .before .before .args .sw) (c .before .before .before .before .before .before .args .limits) (c .before .before .before .before .before .before .args .any) (c .before .before .before .before .before .before .args .text .now) _ _ (sym (c .before .before .before .next-token .ensures) ∙ c .before .number2 .given .1) }
 

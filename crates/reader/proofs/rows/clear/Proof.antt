@@ -17,35 +17,27 @@ Inv-loop table₀ i₀ table i = (i ≤ length table₀) × (length table ≡ le
 abbrev μ-loop : tie.MeasureT-loop
 μ-loop table₀ i₀ table i = length table - i
 
--- src/rows.rt:54:5
 loop-holds : tie.Need-loop-holds Inv-loop μ-loop
 loop-holds c = (omega arith, refl, fill-none _ 0)
 
--- src/rows.rt:55:9
 mul-table : tie.Need-mul-table Inv-loop μ-loop
 mul-table c = search needs
 
--- src/rows.rt:55:9
 slice-write-table : tie.Need-slice-write-table Inv-loop μ-loop
 slice-write-table c = search needs
 
--- src/rows.rt:56:9
 add-i : tie.Need-add-i Inv-loop μ-loop
 add-i c = omega arith
 
--- src/rows.rt:54:5
 loop-less : tie.Need-loop-less Inv-loop μ-loop
 loop-less c = simp length-set (omega arith)
 
--- src/rows.rt:54:5
 loop-again : tie.Need-loop-again Inv-loop μ-loop
 loop-again c = (omega arith, length-set (c .before .loop .table) (c .before .loop .i) 0 ∙ c .before .loop .inv .1, ap (λ (l : List ℕ). set l (c .before .loop .i) 0) (c .before .loop .inv .2) ∙ fill-more (c .before .loop .i) 0 _ (omega arith))
 
--- src/rows.rt:50:1
 same-length : tie.Need-same-length Inv-loop μ-loop
 same-length c = c .before .loop .inv .1
 
--- src/rows.rt:50:1
 returns : tie.Need-returns Inv-loop μ-loop
 returns c = let e : c .before .loop .i ≡ length (c .before .before .args .table .now) = omega arith in c .before .loop .inv .2 ∙ ap (λ (k : ℕ). replicate k 0 ++ drop k (c .before .before .args .table .now)) e ∙ ap (λ (l : List ℕ). replicate (length (c .before .before .args .table .now)) 0 ++ l) (drop-of-length-le (c .before .before .args .table .now) (le-refl _)) ∙ append-nil _
 

@@ -7,29 +7,23 @@ use Rattle.reader.proofs.rows.kind_word.Tie as tie
 use Rattle.reader.proofs.rows.kind_word.Reads as reads
 use Rattle.reader.proofs.rows.kind_word.Lts as lts
 
--- src/rows.rt:44:25
 enum-told : tie.Need-enum-told
 enum-told c = search needs
 
--- src/rows.rt:45:24
 enum-told-2 : tie.Need-enum-told-2
 enum-told-2 c = search needs
 
--- src/rows.rt:46:24
 enum-told-3 : tie.Need-enum-told-3
 enum-told-3 c = search needs
 
--- src/rows.rt:40:1
 returns : tie.Need-returns
 unfolding kindNumber
 returns c = sym (ap kindNumber (c .enum-told .given .1))
 
--- src/rows.rt:40:1
 returns-2 : tie.Need-returns-2
 unfolding kindNumber
 returns-2 c = sym (ap kindNumber (c .enum-told2 .given .1))
 
--- src/rows.rt:40:1
 returns-3 : tie.Need-returns-3
 unfolding kindNumber
 returns-3 c = sym (ap kindNumber (c .enum-told3 .given .1))

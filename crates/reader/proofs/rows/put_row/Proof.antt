@@ -18,155 +18,117 @@ ten n = omega arith
 eleven : (n : ℕ) → n + 11 ≡ suc (suc (suc (n + 8)))
 eleven n = omega arith
 
--- src/rows.rt:16:13
 mul-i : tie.Need-mul-i
 mul-i c = omega arith
 
--- src/rows.rt:17:5
 mul-table : tie.Need-mul-table
 mul-table c = omega arith
 
--- src/rows.rt:17:5
 slice-write-table : tie.Need-slice-write-table
 slice-write-table c = omega arith
 
--- src/rows.rt:18:11
 add-table : tie.Need-add-table
 add-table c = omega arith
 
--- src/rows.rt:18:5
 mul-table-2 : tie.Need-mul-table-2
 mul-table-2 c = omega arith
 
--- src/rows.rt:18:5
 slice-write-table-2 : tie.Need-slice-write-table-2
 slice-write-table-2 c = simp length-set (omega arith)
 
--- src/rows.rt:19:11
 add-table-2 : tie.Need-add-table-2
 add-table-2 c = omega arith
 
--- src/rows.rt:19:5
 mul-table-3 : tie.Need-mul-table-3
 mul-table-3 c = omega arith
 
--- src/rows.rt:19:5
 slice-write-table-3 : tie.Need-slice-write-table-3
 slice-write-table-3 c = simp length-set (omega arith)
 
--- src/rows.rt:20:11
 add-table-3 : tie.Need-add-table-3
 add-table-3 c = omega arith
 
--- src/rows.rt:20:5
 mul-table-4 : tie.Need-mul-table-4
 mul-table-4 c = omega arith
 
--- src/rows.rt:20:5
 slice-write-table-4 : tie.Need-slice-write-table-4
 slice-write-table-4 c = simp length-set (omega arith)
 
--- src/rows.rt:21:11
 add-table-4 : tie.Need-add-table-4
 add-table-4 c = omega arith
 
--- src/rows.rt:21:5
 mul-table-5 : tie.Need-mul-table-5
 mul-table-5 c = omega arith
 
--- src/rows.rt:21:5
 slice-write-table-5 : tie.Need-slice-write-table-5
 slice-write-table-5 c = simp length-set (omega arith)
 
--- src/rows.rt:22:11
 add-table-5 : tie.Need-add-table-5
 add-table-5 c = omega arith
 
--- src/rows.rt:22:5
 mul-table-6 : tie.Need-mul-table-6
 mul-table-6 c = omega arith
 
--- src/rows.rt:22:5
 slice-write-table-6 : tie.Need-slice-write-table-6
 slice-write-table-6 c = simp length-set (omega arith)
 
--- src/rows.rt:23:11
 add-table-6 : tie.Need-add-table-6
 add-table-6 c = omega arith
 
--- src/rows.rt:23:5
 mul-table-7 : tie.Need-mul-table-7
 mul-table-7 c = omega arith
 
--- src/rows.rt:23:5
 slice-write-table-7 : tie.Need-slice-write-table-7
 slice-write-table-7 c = simp length-set (omega arith)
 
--- src/rows.rt:24:11
 add-table-7 : tie.Need-add-table-7
 add-table-7 c = omega arith
 
--- src/rows.rt:24:5
 mul-table-8 : tie.Need-mul-table-8
 mul-table-8 c = omega arith
 
--- src/rows.rt:24:5
 slice-write-table-8 : tie.Need-slice-write-table-8
 slice-write-table-8 c = simp length-set (omega arith)
 
--- src/rows.rt:25:11
 add-table-8 : tie.Need-add-table-8
 add-table-8 c = omega arith
 
--- src/rows.rt:25:5
 mul-table-9 : tie.Need-mul-table-9
 mul-table-9 c = omega arith
 
--- src/rows.rt:25:5
 slice-write-table-9 : tie.Need-slice-write-table-9
 slice-write-table-9 c = simp length-set (omega arith)
 
--- src/rows.rt:26:11
 add-table-9 : tie.Need-add-table-9
 add-table-9 c = omega arith
 
--- src/rows.rt:26:5
 mul-table-10 : tie.Need-mul-table-10
 mul-table-10 c = omega arith
 
--- src/rows.rt:26:5
 slice-write-table-10 : tie.Need-slice-write-table-10
 slice-write-table-10 c = simp length-set (omega arith)
 
--- src/rows.rt:27:11
 add-table-10 : tie.Need-add-table-10
 add-table-10 c = omega arith
 
--- src/rows.rt:27:5
 mul-table-11 : tie.Need-mul-table-11
 mul-table-11 c = omega arith
 
--- src/rows.rt:27:5
 slice-write-table-11 : tie.Need-slice-write-table-11
 slice-write-table-11 c = simp length-set (omega arith)
 
--- src/rows.rt:28:11
 add-table-11 : tie.Need-add-table-11
 add-table-11 c = omega arith
 
--- src/rows.rt:28:5
 mul-table-12 : tie.Need-mul-table-12
 mul-table-12 c = omega arith
 
--- src/rows.rt:28:5
 slice-write-table-12 : tie.Need-slice-write-table-12
 slice-write-table-12 c = simp length-set (omega arith)
 
--- src/rows.rt:12:1
 same-length : tie.Need-same-length
 same-length c = simp length-set
 
--- src/rows.rt:12:1
 returns : tie.Need-returns
 returns c = simp (nine, ten, eleven, towards-suc)
 

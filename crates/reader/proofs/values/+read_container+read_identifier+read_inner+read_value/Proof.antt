@@ -127,91 +127,69 @@ read-container-Inv-loop sw limits text table₀ kind start stop fresh spans n de
 abbrev read-container-μ-loop : read-container-lts.MeasureT-loop
 read-container-μ-loop sw limits text table₀ kind start stop fresh spans n depth parent me first i₀ m₀ z₀ table i m z = length text - i
 
--- src/values.rt:116:9
 read-container-returns : (t : ℕ) → read-container-lts.Need-returns (read-container-calls t) (read-container-at t) read-container.Post read-container-Inv-loop read-container-μ-loop
 read-container-returns t c = record { is = open-deep _ _ _ _ _ (c .before .before .before .before .args .fresh) _ _ _ (c .before .before .before .before .args .kind) (c .if1 .taken) }
 
--- src/values.rt:118:8
 read-container-is-full-requires : (t : ℕ) → read-container-lts.Need-is-full-requires (read-container-calls t) (read-container-at t) read-container.Post read-container-Inv-loop read-container-μ-loop
 read-container-is-full-requires t c κs = search needs
 
--- src/values.rt:119:9
 read-container-returns-2 : (t : ℕ) → read-container-lts.Need-returns-2 (read-container-calls t) (read-container-at t) read-container.Post read-container-Inv-loop read-container-μ-loop
 read-container-returns-2 t c = record { is = open-full _ _ _ _ _ (c .before .before .before .before .before .before .args .fresh) _ _ _ (c .before .before .before .before .before .before .args .kind) (c .before .before .if1 .left) (sym (c .before .is-full .ensures) ∙ c .if2 .taken) }
 
--- src/values.rt:121:14
 read-container-cast-me : (t : ℕ) → read-container-lts.Need-cast-me (read-container-calls t) (read-container-at t) read-container.Post read-container-Inv-loop read-container-μ-loop
 read-container-cast-me t c = let w = node-left _ (c .before .before .before .before .before .before .args .fresh) (c .before .before .before .before .before .before .args .n) (sym (c .before .is-full .ensures) ∙ c .if2 .left) (c .before .before .before .before .before .before .pre .1 .0 .counted) in omega (arith, c .before .before .before .before .before .before .pre .1 .0 .small)
 
--- src/values.rt:122:17
 read-container-add-first : (t : ℕ) → read-container-lts.Need-add-first (read-container-calls t) (read-container-at t) read-container.Post read-container-Inv-loop read-container-μ-loop
 read-container-add-first t c = let w = node-left _ (c .before .before .before .before .before .before .args .fresh) (c .before .before .before .before .before .before .args .n) (sym (c .before .is-full .ensures) ∙ c .if2 .left) (c .before .before .before .before .before .before .pre .1 .0 .counted) in omega (arith, c .before .before .before .before .before .before .pre .1 .0 .small)
 
--- src/values.rt:124:17
 read-container-add-m : (t : ℕ) → read-container-lts.Need-add-m (read-container-calls t) (read-container-at t) read-container.Post read-container-Inv-loop read-container-μ-loop
 read-container-add-m t c = let w = node-left _ (c .before .before .before .before .before .before .args .fresh) (c .before .before .before .before .before .before .args .n) (sym (c .before .is-full .ensures) ∙ c .if2 .left) (c .before .before .before .before .before .before .pre .1 .0 .counted) in omega (arith, c .before .before .before .before .before .before .pre .1 .0 .small)
 
--- src/values.rt:126:5
 read-container-loop-holds : (t : ℕ) → read-container-lts.Need-loop-holds (read-container-calls t) (read-container-at t) read-container.Post read-container-Inv-loop read-container-μ-loop
 read-container-loop-holds t c = (nil, [], body-start (c .before .before .before .before .before .before .args .sw) (c .before .before .before .before .before .before .args .limits) (c .before .before .before .before .before .before .args .text .now) (c .before .before .before .before .before .before .args .start) (c .before .before .before .before .before .before .args .stop) (c .before .before .before .before .before .before .args .fresh) (labelOf (c .before .before .before .before .before .before .args .spans)) (c .before .before .before .before .before .before .args .n) (c .before .before .before .before .before .before .args .depth) (c .before .before .before .before .before .before .args .kind) _ (c .before .before .if1 .left) (sym (c .before .is-full .ensures) ∙ c .if2 .left) (node-left _ (c .before .before .before .before .before .before .args .fresh) (c .before .before .before .before .before .before .args .n) (sym (c .before .is-full .ensures) ∙ c .if2 .left) (c .before .before .before .before .before .before .pre .1 .0 .counted)) (c .before .before .before .before .before .before .pre .1 .1 .0 .ordered) (c .before .before .before .before .before .before .pre .1 .1 .0 .inside) (c .before .before .before .before .before .before .pre .1 .0 .room))
 
--- src/values.rt:127:15
 read-container-next-item-requires : (t : ℕ) → read-container-lts.Need-next-item-requires (read-container-calls t) (read-container-at t) read-container.Post read-container-Inv-loop read-container-μ-loop
 read-container-next-item-requires t c κs = body-look (c .before .before .before .before .before .before .before .before .pre .1 .0 .short) (c .before .loop .inv .2)
 
--- src/values.rt:128:25
 read-container-enum-known-f : (t : ℕ) → read-container-lts.Need-enum-known-f (read-container-calls t) (read-container-at t) read-container.Post read-container-Inv-loop read-container-μ-loop
 read-container-enum-known-f t c = search needs
 
--- src/values.rt:129:17
 read-container-same-length : (t : ℕ) → read-container-lts.Need-same-length (read-container-calls t) (read-container-at t) read-container.Post read-container-Inv-loop read-container-μ-loop
 read-container-same-length t c = c .before .before .before .before .before .loop .inv .2 .long
 
--- src/values.rt:129:17
 read-container-returns-3 : (t : ℕ) → read-container-lts.Need-returns-3 (read-container-calls t) (read-container-at t) read-container.Post read-container-Inv-loop read-container-μ-loop
 read-container-returns-3 t c = record { is = body-wrong (c .before .before .before .before .before .loop .inv .2) (wrong-is (c .before .f .given .1) (c .before .before .before .next-item .ensures)) }
 
--- src/values.rt:131:24
 read-container-enum-known-j : (t : ℕ) → read-container-lts.Need-enum-known-j (read-container-calls t) (read-container-at t) read-container.Post read-container-Inv-loop read-container-μ-loop
 read-container-enum-known-j t c = search needs
 
--- src/values.rt:132:35
 read-container-kind-word-requires : (t : ℕ) → read-container-lts.Need-kind-word-requires (read-container-calls t) (read-container-at t) read-container.Post read-container-Inv-loop read-container-μ-loop
 read-container-kind-word-requires t c κs = search needs
 
--- src/values.rt:132:67
 read-container-cast-put-row : (t : ℕ) → read-container-lts.Need-cast-put-row (read-container-calls t) (read-container-at t) read-container.Post read-container-Inv-loop read-container-μ-loop
 read-container-cast-put-row t c = let E = last-is (c .before .before .before .j .given .1) (c .before .before .before .before .before .next-item .ensures) in omega (arith, E .inside, c .before .before .before .before .before .before .before .before .before .before .before .before .before .before .pre .1 .0 .short)
 
--- src/values.rt:132:77
 read-container-cast-put-row-2 : (t : ℕ) → read-container-lts.Need-cast-put-row-2 (read-container-calls t) (read-container-at t) read-container.Post read-container-Inv-loop read-container-μ-loop
 read-container-cast-put-row-2 t c = omega (arith, c .before .before .before .before .before .before .before .loop .inv .2 .below, c .before .before .before .before .before .before .before .before .before .before .before .before .before .before .pre .1 .0 .small)
 
--- src/values.rt:132:87
 read-container-cast-put-row-3 : (t : ℕ) → read-container-lts.Need-cast-put-row-3 (read-container-calls t) (read-container-at t) read-container.Post read-container-Inv-loop read-container-μ-loop
 read-container-cast-put-row-3 t c = omega (arith, c .before .before .before .before .before .before .before .loop .inv .2 .few, c .before .before .before .before .before .before .before .loop .inv .2 .below, c .before .before .before .before .before .before .before .before .before .before .before .before .before .before .pre .1 .0 .small)
 
--- src/values.rt:132:17
 read-container-put-row-requires : (t : ℕ) → read-container-lts.Need-put-row-requires (read-container-calls t) (read-container-at t) read-container.Post read-container-Inv-loop read-container-μ-loop
 read-container-put-row-requires t c κs = omega (arith, c .before .before .before .before .before .before .before .loop .inv .2 .grew, c .before .before .before .before .before .before .before .loop .inv .2 .below, c .before .before .before .before .before .before .before .loop .inv .2 .room, c .before .before .before .before .before .before .before .loop .inv .2 .long)
 
--- src/values.rt:133:17
 read-container-same-length-2 : (t : ℕ) → read-container-lts.Need-same-length-2 (read-container-calls t) (read-container-at t) read-container.Post read-container-Inv-loop read-container-μ-loop
 read-container-same-length-2 t c = c .before .before .put-row .kept .0 ∙ c .before .before .before .before .before .before .before .before .before .before .loop .inv .2 .long
 
--- src/values.rt:133:17
 read-container-returns-4 : (t : ℕ) → read-container-lts.Need-returns-4 (read-container-calls t) (read-container-at t) read-container.Post read-container-Inv-loop read-container-μ-loop
 read-container-returns-4 t c = record { is = body-took (c .before .before .before .before .before .before .before .before .before .before .before .before .before .before .before .before .before .pre .1 .1 .1) (body-last (c .before .before .before .before .before .before .before .before .before .before .loop .inv .2) (last-is (c .before .before .before .before .before .before .j .given .1) (c .before .before .before .before .before .before .before .before .next-item .ensures))) (c .before .before .before .kind-word .ensures) (c .before .before .put-row .ensures) }
 
--- src/values.rt:136:23
 read-container-enum-known-k : (t : ℕ) → read-container-lts.Need-enum-known-k (read-container-calls t) (read-container-at t) read-container.Post read-container-Inv-loop read-container-μ-loop
 read-container-enum-known-k t c = search needs
 
--- src/values.rt:141:84
 read-container-add-read-value : (t : ℕ) → read-container-lts.Need-add-read-value (read-container-calls t) (read-container-at t) read-container.Post read-container-Inv-loop read-container-μ-loop
 read-container-add-read-value t c = omega (arith, c .before .before .before .before .before .before .before .before .before .if1 .left)
 
--- src/values.rt:141:24
 read-container-read-value-requires : (t : ℕ) → read-container-lts.Need-read-value-requires (read-container-calls t) (read-container-at t) read-container.Post read-container-Inv-loop read-container-μ-loop
 read-container-read-value-requires t c κs = let I = value-is (c .before .before .k .given .1) (c .before .before .before .before .next-item .ensures) in (
   omega (arith, I .ahead, I .token .ordered, I .token .inside, c .before .before .before .before .before .before .loop .inv .2 .ahead),
@@ -221,111 +199,84 @@ read-container-read-value-requires t c κs = let I = value-is (c .before .before
   ),
 )
 
--- src/values.rt:142:33
 read-container-enum-known-f-2 : (t : ℕ) → read-container-lts.Need-enum-known-f-2 (read-container-calls t) (read-container-at t) read-container.Post read-container-Inv-loop read-container-μ-loop
 read-container-enum-known-f-2 t c = search needs
 
--- src/values.rt:143:21
 read-container-same-length-3 : (t : ℕ) → read-container-lts.Need-same-length-3 (read-container-calls t) (read-container-at t) read-container.Post read-container-Inv-loop read-container-μ-loop
 read-container-same-length-3 t c = c .before .before .before .before .before .read-value .kept .1 .1 .1 .0 ∙ c .before .before .before .before .before .before .before .before .before .before .before .before .loop .inv .2 .long
 
--- src/values.rt:143:21
 read-container-returns-5 : (t : ℕ) → read-container-lts.Need-returns-5 (read-container-calls t) (read-container-at t) read-container.Post read-container-Inv-loop read-container-μ-loop
 read-container-returns-5 t c = record { is = body-stop (c .before .before .before .before .before .before .before .before .before .before .before .before .loop .inv .2) (value-is (c .before .before .before .before .before .before .before .before .k .given .1) (c .before .before .before .before .before .before .before .before .before .before .next-item .ensures)) (stops (c .before .f2 .given .1) (c .before .before .before .before .before .read-value .ensures)) }
 
--- src/values.rt:145:30
 read-container-enum-known-j-2 : (t : ℕ) → read-container-lts.Need-enum-known-j-2 (read-container-calls t) (read-container-at t) read-container.Post read-container-Inv-loop read-container-μ-loop
 read-container-enum-known-j-2 t c = search needs
 
--- src/values.rt:147:21
 read-container-add-z : (t : ℕ) → read-container-lts.Need-add-z (read-container-calls t) (read-container-at t) read-container.Post read-container-Inv-loop read-container-μ-loop
 read-container-add-z t c = omega (arith, c .before .before .before .before .before .before .before .before .before .before .before .before .loop .inv .2 .few, c .before .before .before .before .before .before .before .before .before .before .before .before .loop .inv .2 .below, c .before .before .before .before .before .before .before .before .before .before .before .before .before .before .before .before .before .before .before .pre .1 .0 .small)
 
--- src/values.rt:148:27
 read-container-after-item-requires : (t : ℕ) → read-container-lts.Need-after-item-requires (read-container-calls t) (read-container-at t) read-container.Post read-container-Inv-loop read-container-μ-loop
 read-container-after-item-requires t c κs = (took (c .before .j2 .given .1) (c .before .before .before .before .before .read-value .ensures)) .inside
 
--- src/values.rt:149:36
 read-container-enum-known-f-3 : (t : ℕ) → read-container-lts.Need-enum-known-f-3 (read-container-calls t) (read-container-at t) read-container.Post read-container-Inv-loop read-container-μ-loop
 read-container-enum-known-f-3 t c = search needs
 
--- src/values.rt:150:29
 read-container-same-length-4 : (t : ℕ) → read-container-lts.Need-same-length-4 (read-container-calls t) (read-container-at t) read-container.Post read-container-Inv-loop read-container-μ-loop
 read-container-same-length-4 t c = c .before .before .before .before .before .before .before .before .before .read-value .kept .1 .1 .1 .0 ∙ c .before .before .before .before .before .before .before .before .before .before .before .before .before .before .before .before .loop .inv .2 .long
 
--- src/values.rt:150:29
 read-container-returns-6 : (t : ℕ) → read-container-lts.Need-returns-6 (read-container-calls t) (read-container-at t) read-container.Post read-container-Inv-loop read-container-μ-loop
 read-container-returns-6 t c = record { is = body-off (body-value (c .before .before .before .before .before .before .before .before .before .before .before .before .before .before .before .before .loop .inv .2) (value-is (c .before .before .before .before .before .before .before .before .before .before .before .before .k .given .1) (c .before .before .before .before .before .before .before .before .before .before .before .before .before .before .next-item .ensures)) (took (c .before .before .before .before .before .j2 .given .1) (c .before .before .before .before .before .before .before .before .before .read-value .ensures)) (c .before .before .before .before .before .before .before .before .before .read-value .kept .1 .1 .1 .0)) (off-is (c .before .f3 .given .1) (c .before .before .before .after-item .ensures)) }
 
--- src/values.rt:152:37
 read-container-enum-known-o : (t : ℕ) → read-container-lts.Need-enum-known-o (read-container-calls t) (read-container-at t) read-container.Post read-container-Inv-loop read-container-μ-loop
 read-container-enum-known-o t c = search needs
 
--- src/values.rt:153:47
 read-container-kind-word-requires-2 : (t : ℕ) → read-container-lts.Need-kind-word-requires-2 (read-container-calls t) (read-container-at t) read-container.Post read-container-Inv-loop read-container-μ-loop
 read-container-kind-word-requires-2 t c κs = search needs
 
--- src/values.rt:153:79
 read-container-cast-put-row-4 : (t : ℕ) → read-container-lts.Need-cast-put-row-4 (read-container-calls t) (read-container-at t) read-container.Post read-container-Inv-loop read-container-μ-loop
 read-container-cast-put-row-4 t c = let C = over-is (c .before .before .before .o .given .1) (c .before .before .before .before .before .after-item .ensures) in omega (arith, C .within, c .before .before .before .before .before .before .before .before .before .before .before .before .before .before .before .before .before .before .before .before .before .before .before .before .before .pre .1 .0 .short)
 
--- src/values.rt:153:89
 read-container-cast-put-row-5 : (t : ℕ) → read-container-lts.Need-cast-put-row-5 (read-container-calls t) (read-container-at t) read-container.Post read-container-Inv-loop read-container-μ-loop
 read-container-cast-put-row-5 t c = let W = (body-value (c .before .before .before .before .before .before .before .before .before .before .before .before .before .before .before .before .before .before .loop .inv .2) (value-is (c .before .before .before .before .before .before .before .before .before .before .before .before .before .before .k .given .1) (c .before .before .before .before .before .before .before .before .before .before .before .before .before .before .before .before .next-item .ensures)) (took (c .before .before .before .before .before .before .before .j2 .given .1) (c .before .before .before .before .before .before .before .before .before .before .before .read-value .ensures)) (c .before .before .before .before .before .before .before .before .before .before .before .read-value .kept .1 .1 .1 .0)) in omega (arith, W .below, c .before .before .before .before .before .before .before .before .before .before .before .before .before .before .before .before .before .before .before .before .before .before .before .before .before .pre .1 .0 .small)
 
--- src/values.rt:153:99
 read-container-cast-put-row-6 : (t : ℕ) → read-container-lts.Need-cast-put-row-6 (read-container-calls t) (read-container-at t) read-container.Post read-container-Inv-loop read-container-μ-loop
 read-container-cast-put-row-6 t c = let W = (body-value (c .before .before .before .before .before .before .before .before .before .before .before .before .before .before .before .before .before .before .loop .inv .2) (value-is (c .before .before .before .before .before .before .before .before .before .before .before .before .before .before .k .given .1) (c .before .before .before .before .before .before .before .before .before .before .before .before .before .before .before .before .next-item .ensures)) (took (c .before .before .before .before .before .before .before .j2 .given .1) (c .before .before .before .before .before .before .before .before .before .before .before .read-value .ensures)) (c .before .before .before .before .before .before .before .before .before .before .before .read-value .kept .1 .1 .1 .0)) in omega (arith, W .few, W .below, c .before .before .before .before .before .before .before .before .before .before .before .before .before .before .before .before .before .before .before .before .before .before .before .before .before .pre .1 .0 .small)
 
--- src/values.rt:153:29
 read-container-put-row-requires-2 : (t : ℕ) → read-container-lts.Need-put-row-requires-2 (read-container-calls t) (read-container-at t) read-container.Post read-container-Inv-loop read-container-μ-loop
 read-container-put-row-requires-2 t c κs = let W = (body-value (c .before .before .before .before .before .before .before .before .before .before .before .before .before .before .before .before .before .before .loop .inv .2) (value-is (c .before .before .before .before .before .before .before .before .before .before .before .before .before .before .k .given .1) (c .before .before .before .before .before .before .before .before .before .before .before .before .before .before .before .before .next-item .ensures)) (took (c .before .before .before .before .before .before .before .j2 .given .1) (c .before .before .before .before .before .before .before .before .before .before .before .read-value .ensures)) (c .before .before .before .before .before .before .before .before .before .before .before .read-value .kept .1 .1 .1 .0)) in omega (arith, W .grew, W .below, W .room, W .long)
 
--- src/values.rt:154:29
 read-container-same-length-5 : (t : ℕ) → read-container-lts.Need-same-length-5 (read-container-calls t) (read-container-at t) read-container.Post read-container-Inv-loop read-container-μ-loop
 read-container-same-length-5 t c = c .before .before .put-row2 .kept .0 ∙ c .before .before .before .before .before .before .before .before .before .before .before .before .before .before .read-value .kept .1 .1 .1 .0 ∙ c .before .before .before .before .before .before .before .before .before .before .before .before .before .before .before .before .before .before .before .before .before .loop .inv .2 .long
 
--- src/values.rt:154:29
 read-container-returns-7 : (t : ℕ) → read-container-lts.Need-returns-7 (read-container-calls t) (read-container-at t) read-container.Post read-container-Inv-loop read-container-μ-loop
 read-container-returns-7 t c = record { is = body-took (c .before .before .before .before .before .before .before .before .before .before .before .before .before .before .before .before .before .before .before .before .before .before .before .before .before .before .before .before .pre .1 .1 .1) (body-over (body-value (c .before .before .before .before .before .before .before .before .before .before .before .before .before .before .before .before .before .before .before .before .before .loop .inv .2) (value-is (c .before .before .before .before .before .before .before .before .before .before .before .before .before .before .before .before .before .k .given .1) (c .before .before .before .before .before .before .before .before .before .before .before .before .before .before .before .before .before .before .before .next-item .ensures)) (took (c .before .before .before .before .before .before .before .before .before .before .j2 .given .1) (c .before .before .before .before .before .before .before .before .before .before .before .before .before .before .read-value .ensures)) (c .before .before .before .before .before .before .before .before .before .before .before .before .before .before .read-value .kept .1 .1 .1 .0)) (over-is (c .before .before .before .before .before .before .o .given .1) (c .before .before .before .before .before .before .before .before .after-item .ensures))) (c .before .before .before .kind-word2 .ensures) (c .before .before .put-row2 .ensures) }
 
--- src/values.rt:156:37
 read-container-enum-known-o-2 : (t : ℕ) → read-container-lts.Need-enum-known-o-2 (read-container-calls t) (read-container-at t) read-container.Post read-container-Inv-loop read-container-μ-loop
 read-container-enum-known-o-2 t c = search needs
 
--- src/values.rt:126:5
 read-container-loop-less : (t : ℕ) → read-container-lts.Need-loop-less (read-container-calls t) (read-container-at t) read-container.Post read-container-Inv-loop read-container-μ-loop
 read-container-loop-less t c = let T = took (c .before .before .before .before .before .j2 .given .1) (c .before .before .before .before .before .before .before .before .before .read-value .ensures) in let I = value-is (c .before .before .before .before .before .before .before .before .before .before .before .before .k .given .1) (c .before .before .before .before .before .before .before .before .before .before .before .before .before .before .next-item .ensures) in let F = more-is (c .before .o2 .given .1) (c .before .before .before .after-item .ensures) in omega (arith, T .ahead, I .ahead, F .ahead, F .within)
 
--- src/values.rt:126:5
 read-container-loop-again : (t : ℕ) → read-container-lts.Need-loop-again (read-container-calls t) (read-container-at t) read-container.Post read-container-Inv-loop read-container-μ-loop
 read-container-loop-again t c = (_, _, body-more (body-value (c .before .before .before .before .before .before .before .before .before .before .before .before .before .before .before .before .loop .inv .2) (value-is (c .before .before .before .before .before .before .before .before .before .before .before .before .k .given .1) (c .before .before .before .before .before .before .before .before .before .before .before .before .before .before .next-item .ensures)) (took (c .before .before .before .before .before .j2 .given .1) (c .before .before .before .before .before .before .before .before .before .read-value .ensures)) (c .before .before .before .before .before .before .before .before .before .read-value .kept .1 .1 .1 .0)) (more-is (c .before .o2 .given .1) (c .before .before .before .after-item .ensures)) (omega arith))
 
--- src/values.rt:197:9
 read-identifier-returns : (t : ℕ) → read-identifier-lts.Need-returns (read-identifier-calls t) (read-identifier-at t) read-identifier.Post
 read-identifier-returns t c = record { is = name-full _ _ _ _ _ (c .before .before .before .before .args .any) _ _ _ (c .if1 .taken) }
 
--- src/values.rt:203:15
 read-identifier-cast-t24 : (t : ℕ) → read-identifier-lts.Need-cast-t24 (read-identifier-calls t) (read-identifier-at t) read-identifier.Post
 read-identifier-cast-t24 t c = omega (arith, c .before .before .before .before .pre .1 .1 .0 .ordered, c .before .before .before .before .pre .1 .1 .0 .inside, c .before .before .before .before .pre .1 .0 .short)
 
--- src/values.rt:204:18
 read-identifier-cast-t25 : (t : ℕ) → read-identifier-lts.Need-cast-t25 (read-identifier-calls t) (read-identifier-at t) read-identifier.Post
 read-identifier-cast-t25 t c = omega (arith, c .before .before .before .before .pre .1 .1 .0 .inside, c .before .before .before .before .pre .1 .0 .short)
 
--- src/values.rt:206:11
 read-identifier-one-mark-requires : (t : ℕ) → read-identifier-lts.Need-one-mark-requires (read-identifier-calls t) (read-identifier-at t) read-identifier.Post
 read-identifier-one-mark-requires t c κs = c .before .before .before .before .pre .1 .1 .0 .inside
 
--- src/values.rt:207:19
 read-identifier-enum-known-f : (t : ℕ) → read-identifier-lts.Need-enum-known-f (read-identifier-calls t) (read-identifier-at t) read-identifier.Post
 read-identifier-enum-known-f t c = search needs
 
--- src/values.rt:208:18
 read-identifier-enum-known-p : (t : ℕ) → read-identifier-lts.Need-enum-known-p (read-identifier-calls t) (read-identifier-at t) read-identifier.Post
 read-identifier-enum-known-p t c = search needs
 
--- src/values.rt:208:30
 read-identifier-read-inner-requires : (t : ℕ) → read-identifier-lts.Need-read-inner-requires (read-identifier-calls t) (read-identifier-at t) read-identifier.Post
 read-identifier-read-inner-requires t c κs = let P = only-at (c .before .before .p .given .1) (c .before .before .before .before .one-mark .ensures) in (
   omega (arith, P .ahead, P .some, P .inside, c .before .before .before .before .before .before .before .before .before .pre .1 .1 .0 .ordered),
@@ -335,214 +286,163 @@ read-identifier-read-inner-requires t c κs = let P = only-at (c .before .before
   ),
 )
 
--- src/values.rt:209:29
 read-identifier-enum-known-f-2 : (t : ℕ) → read-identifier-lts.Need-enum-known-f-2 (read-identifier-calls t) (read-identifier-at t) read-identifier.Post
 read-identifier-enum-known-f-2 t c = search needs
 
--- src/values.rt:210:26
 read-identifier-enum-known-j : (t : ℕ) → read-identifier-lts.Need-enum-known-j (read-identifier-calls t) (read-identifier-at t) read-identifier.Post
 read-identifier-enum-known-j t c = search needs
 
--- src/values.rt:210:41
 read-identifier-one-mark-requires-2 : (t : ℕ) → read-identifier-lts.Need-one-mark-requires-2 (read-identifier-calls t) (read-identifier-at t) read-identifier.Post
 read-identifier-one-mark-requires-2 t c κs = (took (c .before .j .given .1) (c .before .before .before .before .before .read-inner .ensures)) .inside
 
--- src/values.rt:211:27
 read-identifier-enum-known-f-3 : (t : ℕ) → read-identifier-lts.Need-enum-known-f-3 (read-identifier-calls t) (read-identifier-at t) read-identifier.Post
 read-identifier-enum-known-f-3 t c = search needs
 
--- src/values.rt:212:26
 read-identifier-enum-known-q : (t : ℕ) → read-identifier-lts.Need-enum-known-q (read-identifier-calls t) (read-identifier-at t) read-identifier.Post
 read-identifier-enum-known-q t c = search needs
 
--- src/values.rt:213:40
 read-identifier-cast-put-stop : (t : ℕ) → read-identifier-lts.Need-cast-put-stop (read-identifier-calls t) (read-identifier-at t) read-identifier.Post
 read-identifier-cast-put-stop t c = let Q = only-at (c .before .before .q .given .1) (c .before .before .before .before .one-mark2 .ensures) in omega (arith, Q .inside, c .before .before .before .before .before .before .before .before .before .before .before .before .before .before .before .before .before .before .before .before .pre .1 .0 .short)
 
--- src/values.rt:213:21
 read-identifier-put-stop-requires : (t : ℕ) → read-identifier-lts.Need-put-stop-requires (read-identifier-calls t) (read-identifier-at t) read-identifier.Post
 read-identifier-put-stop-requires t c κs = omega (arith, c .before .before .before .before .before .before .before .before .before .before .read-inner .kept .1 .1 .1 .0, c .before .before .before .before .before .before .before .before .before .before .before .before .before .before .before .before .if1 .left, c .before .before .before .before .before .before .before .before .before .before .before .before .before .before .before .before .before .before .before .before .pre .1 .0 .room)
 
--- src/values.rt:190:1
 read-identifier-returns-2 : (t : ℕ) → read-identifier-lts.Need-returns-2 (read-identifier-calls t) (read-identifier-at t) read-identifier.Post
 read-identifier-returns-2 t c = record { is = name-not _ _ _ _ _ (c .before .before .before .before .before .before .before .before .args .any) (c .before .before .before .before .before .before .before .before .args .spans) _ _ (c .before .before .before .before .if1 .left) (record { start = c .before .before .before .before .before .before .before .before .args .spans .start; key = c .before .before .before .before .before .before .before .before .args .spans .key; keyend = c .before .before .before .before .before .before .before .before .args .spans .keyend; name = c .before .before .before .before .before .before .before .before .args .start; nameend = c .before .before .before .before .before .before .before .before .args .stop }) (name-label (c .before .before .before .before .before .before .before .before .args .sw) (c .before .before .before .before .before .before .before .before .args .limits) (c .before .before .before .before .before .before .before .before .args .text .now) (c .before .before .before .before .before .before .before .before .args .start) (c .before .before .before .before .before .before .before .before .args .stop) (c .before .before .before .before .before .before .before .before .args .any) (c .before .before .before .before .before .before .before .before .args .spans) (c .before .before .before .before .before .before .before .before .args .n) (c .before .before .before .before .before .before .before .before .args .depth) (record { start = c .before .before .before .before .before .before .before .before .args .spans .start; key = c .before .before .before .before .before .before .before .before .args .spans .key; keyend = c .before .before .before .before .before .before .before .before .args .spans .keyend; name = c .before .before .before .before .before .before .before .before .args .start; nameend = c .before .before .before .before .before .before .before .before .args .stop }) refl refl refl refl refl (c .before .before .before .before .before .before .before .before .pre .1 .1 .0 .ordered)) _ _ (only-not (c .before .f .given .1) (c .before .before .before .one-mark .ensures)) }
 
--- src/values.rt:190:1
 read-identifier-same-length : (t : ℕ) → read-identifier-lts.Need-same-length (read-identifier-calls t) (read-identifier-at t) read-identifier.Post
 read-identifier-same-length t c = c .before .before .before .before .before .read-inner .kept .1 .1 .1 .0
 
--- src/values.rt:190:1
 read-identifier-returns-3 : (t : ℕ) → read-identifier-lts.Need-returns-3 (read-identifier-calls t) (read-identifier-at t) read-identifier.Post
 read-identifier-returns-3 t c = record { is = name-stop _ _ _ _ _ (c .before .before .before .before .before .before .before .before .before .before .before .before .before .before .before .args .any) (c .before .before .before .before .before .before .before .before .before .before .before .before .before .before .before .args .spans) _ _ (c .before .before .before .before .before .before .before .before .before .before .before .if1 .left) (record { start = c .before .before .before .before .before .before .before .before .before .before .before .before .before .before .before .args .spans .start; key = c .before .before .before .before .before .before .before .before .before .before .before .before .before .before .before .args .spans .key; keyend = c .before .before .before .before .before .before .before .before .before .before .before .before .before .before .before .args .spans .keyend; name = c .before .before .before .before .before .before .before .before .before .before .before .before .before .before .before .args .start; nameend = c .before .before .before .before .before .before .before .before .before .before .before .before .before .before .before .args .stop }) (name-label (c .before .before .before .before .before .before .before .before .before .before .before .before .before .before .before .args .sw) (c .before .before .before .before .before .before .before .before .before .before .before .before .before .before .before .args .limits) (c .before .before .before .before .before .before .before .before .before .before .before .before .before .before .before .args .text .now) (c .before .before .before .before .before .before .before .before .before .before .before .before .before .before .before .args .start) (c .before .before .before .before .before .before .before .before .before .before .before .before .before .before .before .args .stop) (c .before .before .before .before .before .before .before .before .before .before .before .before .before .before .before .args .any) (c .before .before .before .before .before .before .before .before .before .before .before .before .before .before .before .args .spans) (c .before .before .before .before .before .before .before .before .before .before .before .before .before .before .before .args .n) (c .before .before .before .before .before .before .before .before .before .before .before .before .before .before .before .args .depth) (record { start = c .before .before .before .before .before .before .before .before .before .before .before .before .before .before .before .args .spans .start; key = c .before .before .before .before .before .before .before .before .before .before .before .before .before .before .before .args .spans .key; keyend = c .before .before .before .before .before .before .before .before .before .before .before .before .before .before .before .args .spans .keyend; name = c .before .before .before .before .before .before .before .before .before .before .before .before .before .before .before .args .start; nameend = c .before .before .before .before .before .before .before .before .before .before .before .before .before .before .before .args .stop }) refl refl refl refl refl (c .before .before .before .before .before .before .before .before .before .before .before .before .before .before .before .pre .1 .1 .0 .ordered)) _ (only-at (c .before .before .before .before .before .before .before .before .p .given .1) (c .before .before .before .before .before .before .before .before .before .before .one-mark .ensures)) _ _ (stops (c .before .f2 .given .1) (c .before .before .before .before .before .read-inner .ensures)) }
 
--- src/values.rt:190:1
 read-identifier-same-length-2 : (t : ℕ) → read-identifier-lts.Need-same-length-2 (read-identifier-calls t) (read-identifier-at t) read-identifier.Post
 read-identifier-same-length-2 t c = c .before .before .before .before .before .before .before .before .before .read-inner .kept .1 .1 .1 .0
 
--- src/values.rt:190:1
 read-identifier-returns-4 : (t : ℕ) → read-identifier-lts.Need-returns-4 (read-identifier-calls t) (read-identifier-at t) read-identifier.Post
 read-identifier-returns-4 t c = record { is = name-shut-not _ _ _ _ _ (c .before .before .before .before .before .before .before .before .before .before .before .before .before .before .before .before .before .before .before .args .any) (c .before .before .before .before .before .before .before .before .before .before .before .before .before .before .before .before .before .before .before .args .spans) _ _ (c .before .before .before .before .before .before .before .before .before .before .before .before .before .before .before .if1 .left) (record { start = c .before .before .before .before .before .before .before .before .before .before .before .before .before .before .before .before .before .before .before .args .spans .start; key = c .before .before .before .before .before .before .before .before .before .before .before .before .before .before .before .before .before .before .before .args .spans .key; keyend = c .before .before .before .before .before .before .before .before .before .before .before .before .before .before .before .before .before .before .before .args .spans .keyend; name = c .before .before .before .before .before .before .before .before .before .before .before .before .before .before .before .before .before .before .before .args .start; nameend = c .before .before .before .before .before .before .before .before .before .before .before .before .before .before .before .before .before .before .before .args .stop }) (name-label (c .before .before .before .before .before .before .before .before .before .before .before .before .before .before .before .before .before .before .before .args .sw) (c .before .before .before .before .before .before .before .before .before .before .before .before .before .before .before .before .before .before .before .args .limits) (c .before .before .before .before .before .before .before .before .before .before .before .before .before .before .before .before .before .before .before .args .text .now) (c .before .before .before .before .before .before .before .before .before .before .before .before .before .before .before .before .before .before .before .args .start) (c .before .before .before .before .before .before .before .before .before .before .before .before .before .before .before .before .before .before .before .args .stop) (c .before .before .before .before .before .before .before .before .before .before .before .before .before .before .before .before .before .before .before .args .any) (c .before .before .before .before .before .before .before .before .before .before .before .before .before .before .before .before .before .before .before .args .spans) (c .before .before .before .before .before .before .before .before .before .before .before .before .before .before .before .before .before .before .before .args .n) (c .before .before .before .before .before .before .before .before .before .before .before .before .before .before .before .before .before .before .before .args .depth) (record { start = c .before .before .before .before .before .before .before .before .before .before .before .before .before .before .before .before .before .before .before .args .spans .start; key = c .before .before .before .before .before .before .before .before .before .before .before .before .before .before .before .before .before .before .before .args .spans .key; keyend = c .before .before .before .before .before .before .before .before .before .before .before .before .before .before .before .before .before .before .before .args .spans .keyend; name = c .before .before .before .before .before .before .before .before .before .before .before .before .before .before .before .before .before .before .before .args .start; nameend = c .before .before .before .before .before .before .before .before .before .before .before .before .before .before .before .before .before .before .before .args .stop }) refl refl refl refl refl (c .before .before .before .before .before .before .before .before .before .before .before .before .before .before .before .before .before .before .before .pre .1 .1 .0 .ordered)) _ (only-at (c .before .before .before .before .before .before .before .before .before .before .before .before .p .given .1) (c .before .before .before .before .before .before .before .before .before .before .before .before .before .before .one-mark .ensures)) _ _ _ _ _ (took (c .before .before .before .before .before .j .given .1) (c .before .before .before .before .before .before .before .before .before .read-inner .ensures)) _ _ (only-not (c .before .f3 .given .1) (c .before .before .before .one-mark2 .ensures)) }
 
--- src/values.rt:190:1
 read-identifier-same-length-3 : (t : ℕ) → read-identifier-lts.Need-same-length-3 (read-identifier-calls t) (read-identifier-at t) read-identifier.Post
 read-identifier-same-length-3 t c = c .before .before .put-stop .kept .0 ∙ c .before .before .before .before .before .before .before .before .before .before .before .before .before .read-inner .kept .1 .1 .1 .0
 
--- src/values.rt:190:1
 read-identifier-returns-5 : (t : ℕ) → read-identifier-lts.Need-returns-5 (read-identifier-calls t) (read-identifier-at t) read-identifier.Post
 read-identifier-returns-5 t c = record { is = name-took _ _ _ _ _ (c .before .before .before .before .before .before .before .before .before .before .before .before .before .before .before .before .before .before .before .before .before .before .before .args .any) (c .before .before .before .before .before .before .before .before .before .before .before .before .before .before .before .before .before .before .before .before .before .before .before .args .spans) _ _ (c .before .before .before .before .before .before .before .before .before .before .before .before .before .before .before .before .before .before .before .if1 .left) (record { start = c .before .before .before .before .before .before .before .before .before .before .before .before .before .before .before .before .before .before .before .before .before .before .before .args .spans .start; key = c .before .before .before .before .before .before .before .before .before .before .before .before .before .before .before .before .before .before .before .before .before .before .before .args .spans .key; keyend = c .before .before .before .before .before .before .before .before .before .before .before .before .before .before .before .before .before .before .before .before .before .before .before .args .spans .keyend; name = c .before .before .before .before .before .before .before .before .before .before .before .before .before .before .before .before .before .before .before .before .before .before .before .args .start; nameend = c .before .before .before .before .before .before .before .before .before .before .before .before .before .before .before .before .before .before .before .before .before .before .before .args .stop }) (name-label (c .before .before .before .before .before .before .before .before .before .before .before .before .before .before .before .before .before .before .before .before .before .before .before .args .sw) (c .before .before .before .before .before .before .before .before .before .before .before .before .before .before .before .before .before .before .before .before .before .before .before .args .limits) (c .before .before .before .before .before .before .before .before .before .before .before .before .before .before .before .before .before .before .before .before .before .before .before .args .text .now) (c .before .before .before .before .before .before .before .before .before .before .before .before .before .before .before .before .before .before .before .before .before .before .before .args .start) (c .before .before .before .before .before .before .before .before .before .before .before .before .before .before .before .before .before .before .before .before .before .before .before .args .stop) (c .before .before .before .before .before .before .before .before .before .before .before .before .before .before .before .before .before .before .before .before .before .before .before .args .any) (c .before .before .before .before .before .before .before .before .before .before .before .before .before .before .before .before .before .before .before .before .before .before .before .args .spans) (c .before .before .before .before .before .before .before .before .before .before .before .before .before .before .before .before .before .before .before .before .before .before .before .args .n) (c .before .before .before .before .before .before .before .before .before .before .before .before .before .before .before .before .before .before .before .before .before .before .before .args .depth) (record { start = c .before .before .before .before .before .before .before .before .before .before .before .before .before .before .before .before .before .before .before .before .before .before .before .args .spans .start; key = c .before .before .before .before .before .before .before .before .before .before .before .before .before .before .before .before .before .before .before .before .before .before .before .args .spans .key; keyend = c .before .before .before .before .before .before .before .before .before .before .before .before .before .before .before .before .before .before .before .before .before .before .before .args .spans .keyend; name = c .before .before .before .before .before .before .before .before .before .before .before .before .before .before .before .before .before .before .before .before .before .before .before .args .start; nameend = c .before .before .before .before .before .before .before .before .before .before .before .before .before .before .before .before .before .before .before .before .before .before .before .args .stop }) refl refl refl refl refl (c .before .before .before .before .before .before .before .before .before .before .before .before .before .before .before .before .before .before .before .before .before .before .before .pre .1 .1 .0 .ordered)) _ (only-at (c .before .before .before .before .before .before .before .before .before .before .before .before .before .before .before .before .p .given .1) (c .before .before .before .before .before .before .before .before .before .before .before .before .before .before .before .before .before .before .one-mark .ensures)) _ _ _ _ _ (took (c .before .before .before .before .before .before .before .before .before .j .given .1) (c .before .before .before .before .before .before .before .before .before .before .before .before .before .read-inner .ensures)) _ (only-at (c .before .before .before .before .before .q .given .1) (c .before .before .before .before .before .before .before .one-mark2 .ensures)) (c .before .before .before .before .before .before .before .before .before .before .before .before .before .before .before .before .before .before .before .before .before .before .before .pre .1 .1 .0 .ordered) _ (c .before .before .put-stop .ensures) }
 
--- src/values.rt:173:11
 read-inner-next-token-requires : (t : ℕ) → read-inner-lts.Need-next-token-requires (read-inner-calls t) (read-inner-at t) read-inner.Post
 read-inner-next-token-requires t c κs = search needs
 
--- src/values.rt:175:19
 read-inner-enum-known-k : (t : ℕ) → read-inner-lts.Need-enum-known-k (read-inner-calls t) (read-inner-at t) read-inner.Post
 read-inner-enum-known-k t c = search needs
 
--- src/values.rt:178:20
 read-inner-begin-of-requires : (t : ℕ) → read-inner-lts.Need-begin-of-requires (read-inner-calls t) (read-inner-at t) read-inner.Post
 read-inner-begin-of-requires t c κs = (peeked _ _ _ _ _ _ (c .before .before .before .before .before .before .pre .1 .1 .0) (sym (c .before .before .before .next-token .ensures) ∙ c .before .k .given .1) .token, c .before .before .before .before .before .before .pre .1 .0 .short)
 
--- src/values.rt:179:30
 read-inner-enum-known-box-kind : (t : ℕ) → read-inner-lts.Need-enum-known-box-kind (read-inner-calls t) (read-inner-at t) read-inner.Post
 read-inner-enum-known-box-kind t c = search needs
 
--- src/values.rt:179:43
 read-inner-read-container-requires : (t : ℕ) → read-inner-lts.Need-read-container-requires (read-inner-calls t) (read-inner-at t) read-inner.Post
 read-inner-read-container-requires t c κs = let P = peeked (c .before .before .before .before .before .before .before .before .before .before .before .args .sw) (c .before .before .before .before .before .before .before .before .before .before .before .args .text .now) (c .before .before .before .before .before .before .before .before .before .before .before .args .from) _ _ _ (c .before .before .before .before .before .before .before .before .before .before .before .pre .1 .1 .0) (sym (c .before .before .before .before .before .before .before .before .next-token .ensures) ∙ c .before .before .before .before .before .before .k .given .1) in
     (omega (arith, P .ahead, P .token .ordered, P .token .inside), (c .before .before .before .before .before .before .before .before .before .before .before .pre .1 .0, (record { ordered = P .token .ordered; inside = P .token .inside }, c .before .before .before .before .before .before .before .before .before .before .before .pre .1 .1 .1)))
 
--- src/values.rt:180:27
 read-inner-enum-known-leaf : (t : ℕ) → read-inner-lts.Need-enum-known-leaf (read-inner-calls t) (read-inner-at t) read-inner.Post
 read-inner-enum-known-leaf t c = search needs
 
--- src/values.rt:180:36
 read-inner-put-leaf-requires : (t : ℕ) → read-inner-lts.Need-put-leaf-requires (read-inner-calls t) (read-inner-at t) read-inner.Post
 read-inner-put-leaf-requires t c κs = let P = peeked (c .before .before .before .before .before .before .before .before .before .before .before .args .sw) (c .before .before .before .before .before .before .before .before .before .before .before .args .text .now) (c .before .before .before .before .before .before .before .before .before .before .before .args .from) _ _ _ (c .before .before .before .before .before .before .before .before .before .before .before .pre .1 .1 .0) (sym (c .before .before .before .before .before .before .before .before .next-token .ensures) ∙ c .before .before .before .before .before .before .k .given .1) in
     (c .before .before .before .before .before .before .before .before .before .before .before .pre .1 .0, (record { ordered = P .token .ordered; inside = P .token .inside }, (begun-as (Z.Scalar _) (c .before .before .leaf .given .1) (c .before .before .before .before .begin-of .ensures), c .before .before .before .before .before .before .before .before .before .before .before .pre .1 .1 .1)))
 
--- src/values.rt:181:34
 read-inner-enum-told : (t : ℕ) → read-inner-lts.Need-enum-told (read-inner-calls t) (read-inner-at t) read-inner.Post
 read-inner-enum-told t c = search needs
 
--- src/values.rt:182:31
 read-inner-enum-told-2 : (t : ℕ) → read-inner-lts.Need-enum-told-2 (read-inner-calls t) (read-inner-at t) read-inner.Post
 read-inner-enum-told-2 t c = search needs
 
--- src/values.rt:184:19
 read-inner-enum-known-place : (t : ℕ) → read-inner-lts.Need-enum-known-place (read-inner-calls t) (read-inner-at t) read-inner.Post
 read-inner-enum-known-place t c = search needs
 
--- src/values.rt:185:23
 read-inner-enum-known-number : (t : ℕ) → read-inner-lts.Need-enum-known-number (read-inner-calls t) (read-inner-at t) read-inner.Post
 read-inner-enum-known-number t c = search needs
 
--- src/values.rt:167:1
 read-inner-same-length : (t : ℕ) → read-inner-lts.Need-same-length (read-inner-calls t) (read-inner-at t) read-inner.Post
 read-inner-same-length t c = c .before .before .read-container .kept .1 .1 .1 .0
 
--- src/values.rt:167:1
 read-inner-returns : (t : ℕ) → read-inner-lts.Need-returns (read-inner-calls t) (read-inner-at t) read-inner.Post
 read-inner-returns t c = let P = peeked (c .before .before .before .before .before .before .before .before .before .before .before .before .before .before .args .sw) (c .before .before .before .before .before .before .before .before .before .before .before .before .before .before .args .text .now) (c .before .before .before .before .before .before .before .before .before .before .before .before .before .before .args .from) _ _ _ (c .before .before .before .before .before .before .before .before .before .before .before .before .before .before .pre .1 .1 .0) (sym (c .before .before .before .before .before .before .before .before .before .before .before .next-token .ensures) ∙ c .before .before .before .before .before .before .before .before .before .k .given .1) in
     lead (P .ahead) refl refl (λ stack e. inner-run _ _ _ _ (c .before .before .before .before .before .before .before .before .before .before .before .before .before .before .args .any) _ _ _ _ _ P _ (begun-as (Z.Container _) (c .before .before .before .before .before .box-kind .given .1) (c .before .before .before .before .before .before .before .begin-of .ensures)) stack ∙ any-box _ _ _ _ _ false (c .before .before .before .before .before .before .before .before .before .before .before .before .before .before .args .any) _ _ _ stack) (c .before .before .read-container .ensures)
 
--- src/values.rt:167:1
 read-inner-same-length-2 : (t : ℕ) → read-inner-lts.Need-same-length-2 (read-inner-calls t) (read-inner-at t) read-inner.Post
 read-inner-same-length-2 t c = c .before .before .put-leaf .kept .1 .1 .1 .0
 
--- src/values.rt:167:1
 read-inner-returns-2 : (t : ℕ) → read-inner-lts.Need-returns-2 (read-inner-calls t) (read-inner-at t) read-inner.Post
 read-inner-returns-2 t c = let P = peeked (c .before .before .before .before .before .before .before .before .before .before .before .before .before .before .args .sw) (c .before .before .before .before .before .before .before .before .before .before .before .before .before .before .args .text .now) (c .before .before .before .before .before .before .before .before .before .before .before .before .before .before .args .from) _ _ _ (c .before .before .before .before .before .before .before .before .before .before .before .before .before .before .pre .1 .1 .0) (sym (c .before .before .before .before .before .before .before .before .before .before .before .next-token .ensures) ∙ c .before .before .before .before .before .before .before .before .before .k .given .1) in
     lead (P .ahead) refl refl (λ stack e. inner-run _ _ _ _ (c .before .before .before .before .before .before .before .before .before .before .before .before .before .before .args .any) _ _ _ _ _ P _ refl stack) (c .before .before .put-leaf .ensures)
 
--- src/values.rt:167:1
 read-inner-returns-3 : (t : ℕ) → read-inner-lts.Need-returns-3 (read-inner-calls t) (read-inner-at t) read-inner.Post
 read-inner-returns-3 t c = record { is = inner-name _ _ _ _ (c .before .before .before .before .before .before .before .before .before .args .any) _ _ _ _ _ _ (peeked (c .before .before .before .before .before .before .before .before .before .args .sw) (c .before .before .before .before .before .before .before .before .before .args .text .now) (c .before .before .before .before .before .before .before .before .before .args .from) _ _ _ (c .before .before .before .before .before .before .before .before .before .pre .1 .1 .0) (sym (c .before .before .before .before .before .before .next-token .ensures) ∙ c .before .before .before .before .k .given .1)) (begun-as Z.Identifier (c .enum-told .given .1) (c .before .before .begin-of .ensures)) }
 
--- src/values.rt:167:1
 read-inner-returns-4 : (t : ℕ) → read-inner-lts.Need-returns-4 (read-inner-calls t) (read-inner-at t) read-inner.Post
 read-inner-returns-4 t c = record { is = inner-nothing _ _ _ _ (c .before .before .before .before .before .before .before .before .before .args .any) _ _ _ _ _ _ (peeked (c .before .before .before .before .before .before .before .before .before .args .sw) (c .before .before .before .before .before .before .before .before .before .args .text .now) (c .before .before .before .before .before .before .before .before .before .args .from) _ _ _ (c .before .before .before .before .before .before .before .before .before .pre .1 .1 .0) (sym (c .before .before .before .before .before .before .next-token .ensures) ∙ c .before .before .before .before .k .given .1)) (begun-as Z.Nothing (c .enum-told2 .given .1) (c .before .before .begin-of .ensures)) }
 
--- src/values.rt:167:1
 read-inner-returns-5 : (t : ℕ) → read-inner-lts.Need-returns-5 (read-inner-calls t) (read-inner-at t) read-inner.Post
 read-inner-returns-5 t c = record { is = inner-end _ _ _ _ (c .before .before .before .before .before .before .args .any) _ _ _ _ (sym (c .before .before .before .next-token .ensures) ∙ c .before .place .given .1) }
 
--- src/values.rt:167:1
 read-inner-returns-6 : (t : ℕ) → read-inner-lts.Need-returns-6 (read-inner-calls t) (read-inner-at t) read-inner.Post
 read-inner-returns-6 t c = record { is = inner-fault _ _ _ _ (c .before .before .before .before .before .before .args .any) _ _ _ _ _ (sym (c .before .before .before .next-token .ensures) ∙ c .before .number .given .1) }
 
--- src/values.rt:94:16
 read-value-cast-t17 : (t : ℕ) → read-value-lts.Need-cast-t17 (read-value-calls t) (read-value-at t) read-value.Post
 read-value-cast-t17 t c = omega (arith, c .before .before .pre .1 .1 .0 .ordered, c .before .before .pre .1 .1 .0 .inside, c .before .before .pre .1 .0 .short)
 
--- src/values.rt:95:14
 read-value-cast-t18 : (t : ℕ) → read-value-lts.Need-cast-t18 (read-value-calls t) (read-value-at t) read-value.Post
 read-value-cast-t18 t c = omega (arith, c .before .before .pre .1 .1 .1 .starts)
 
--- src/values.rt:96:17
 read-value-cast-t19 : (t : ℕ) → read-value-lts.Need-cast-t19 (read-value-calls t) (read-value-at t) read-value.Post
 read-value-cast-t19 t c = omega (arith, c .before .before .pre .1 .1 .1 .ends)
 
--- src/values.rt:100:11
 read-value-begin-of-requires : (t : ℕ) → read-value-lts.Need-begin-of-requires (read-value-calls t) (read-value-at t) read-value.Post
 read-value-begin-of-requires t c κs = (c .before .before .pre .1 .1 .0, c .before .before .pre .1 .0 .short)
 
--- src/values.rt:101:26
 read-value-enum-known-k : (t : ℕ) → read-value-lts.Need-enum-known-k (read-value-calls t) (read-value-at t) read-value.Post
 read-value-enum-known-k t c = search needs
 
--- src/values.rt:101:32
 read-value-read-container-requires : (t : ℕ) → read-value-lts.Need-read-container-requires (read-value-calls t) (read-value-at t) read-value.Post
 read-value-read-container-requires t c κs = (omega arith, (c .before .before .before .before .before .before .before .pre .1 .0, (record { ordered = c .before .before .before .before .before .before .before .pre .1 .1 .0 .ordered; inside = c .before .before .before .before .before .before .before .pre .1 .1 .0 .inside }, record { keys = c .before .before .before .before .before .before .before .pre .1 .1 .1 .sane; names = λ _. refl })))
 
--- src/values.rt:102:23
 read-value-enum-known-leaf : (t : ℕ) → read-value-lts.Need-enum-known-leaf (read-value-calls t) (read-value-at t) read-value.Post
 read-value-enum-known-leaf t c = search needs
 
--- src/values.rt:102:32
 read-value-put-leaf-requires : (t : ℕ) → read-value-lts.Need-put-leaf-requires (read-value-calls t) (read-value-at t) read-value.Post
 read-value-put-leaf-requires t c κs = (c .before .before .before .before .before .before .before .pre .1 .0, (record { ordered = c .before .before .before .before .before .before .before .pre .1 .1 .0 .ordered; inside = c .before .before .before .before .before .before .before .pre .1 .1 .0 .inside }, (begun-as (Z.Scalar _) (c .before .before .leaf .given .1) (c .before .before .before .before .begin-of .ensures), record { keys = c .before .before .before .before .before .before .before .pre .1 .1 .1 .sane; names = λ _. refl })))
 
--- src/values.rt:103:64
 read-value-enum-told : (t : ℕ) → read-value-lts.Need-enum-told (read-value-calls t) (read-value-at t) read-value.Post
 read-value-enum-told t c = search needs
 
--- src/values.rt:103:30
 read-value-read-identifier-requires : (t : ℕ) → read-value-lts.Need-read-identifier-requires (read-value-calls t) (read-value-at t) read-value.Post
 read-value-read-identifier-requires t c κs = (omega arith, (c .before .before .before .before .before .before .pre .1 .0, (record { ordered = c .before .before .before .before .before .before .pre .1 .1 .0 .ordered; inside = c .before .before .before .before .before .before .pre .1 .1 .0 .inside }, record { keys = c .before .before .before .before .before .before .pre .1 .1 .1 .sane; names = λ _. refl })))
 
--- src/values.rt:104:27
 read-value-enum-told-2 : (t : ℕ) → read-value-lts.Need-enum-told-2 (read-value-calls t) (read-value-at t) read-value.Post
 read-value-enum-told-2 t c = search needs
 
--- src/values.rt:87:1
 read-value-same-length : (t : ℕ) → read-value-lts.Need-same-length (read-value-calls t) (read-value-at t) read-value.Post
 read-value-same-length t c = c .before .before .read-container .kept .1 .1 .1 .0
 
--- src/values.rt:87:1
 read-value-returns : (t : ℕ) → read-value-lts.Need-returns (read-value-calls t) (read-value-at t) read-value.Post
 unfolding labelOf spanAt
 read-value-returns t c = lead (omega arith) refl refl (λ stack e. opened-by _ _ _ _ _ true (c .before .before .before .before .before .before .before .before .before .before .args .any) _ _ _ _ (begun-as (Z.Container _) (c .before .before .before .before .before .k .given .1) (c .before .before .before .before .before .before .before .begin-of .ensures)) stack ∙ any-box _ _ _ _ _ true (c .before .before .before .before .before .before .before .before .before .before .args .any) _ _ _ stack) (c .before .before .read-container .ensures)
 
--- src/values.rt:87:1
 read-value-same-length-2 : (t : ℕ) → read-value-lts.Need-same-length-2 (read-value-calls t) (read-value-at t) read-value.Post
 read-value-same-length-2 t c = c .before .before .put-leaf .kept .1 .1 .1 .0
 
--- src/values.rt:87:1
 read-value-returns-2 : (t : ℕ) → read-value-lts.Need-returns-2 (read-value-calls t) (read-value-at t) read-value.Post
 unfolding labelOf spanAt
 read-value-returns-2 t c = lead (omega arith) refl refl (λ stack e. refl) (c .before .before .put-leaf .ensures)
 
--- src/values.rt:87:1
 read-value-same-length-3 : (t : ℕ) → read-value-lts.Need-same-length-3 (read-value-calls t) (read-value-at t) read-value.Post
 read-value-same-length-3 t c = c .before .before .read-identifier .kept .1 .1 .1 .0
 
--- src/values.rt:87:1
 read-value-returns-3 : (t : ℕ) → read-value-lts.Need-returns-3 (read-value-calls t) (read-value-at t) read-value.Post
 unfolding labelOf spanAt
 read-value-returns-3 t c = lead (omega arith) refl refl (λ stack e. opened-by _ _ _ _ _ true (c .before .before .before .before .before .before .before .before .before .args .any) _ _ _ _ (begun-as Z.Identifier (c .before .before .before .before .enum-told .given .1) (c .before .before .before .before .before .before .begin-of .ensures)) stack) (c .before .before .read-identifier .ensures)
 
--- src/values.rt:87:1
 read-value-returns-4 : (t : ℕ) → read-value-lts.Need-returns-4 (read-value-calls t) (read-value-at t) read-value.Post
 unfolding labelOf spanAt
 read-value-returns-4 t c = record { is = nothing-stops _ _ _ _ _ true (c .before .before .before .before .before .args .any) _ _ _ _ (begun-as Z.Nothing (c .enum-told2 .given .1) (c .before .before .begin-of .ensures)) }

@@ -5,11 +5,9 @@ use Rattle.reader.proofs.values.is_full.Tie as tie
 use Rattle.reader.proofs.values.is_full.Reads as reads
 use Rattle.reader.proofs.values.is_full.Lts as lts
 
--- src/values.rt:61:9
 returns : tie.Need-returns
 returns c = rw (c .before .if1 .taken)
 
--- src/values.rt:57:1
 returns-2 : tie.Need-returns-2
 returns-2 c = rw (c .if1 .left)
 

@@ -7,45 +7,36 @@ use Rattle.text.proofs.bytes.digit_value.Tie as tie
 use Rattle.text.proofs.bytes.digit_value.Reads as reads
 use Rattle.text.proofs.bytes.digit_value.Lts as lts
 
--- src/bytes.rt:277:9
 returns : tie.Need-returns
 unfolding digitValue
 returns c = rw (lt-leb 48 _ (c .if1 .taken), lt-leb 65 (c .before .args .b) (omega arith), lt-leb 97 (c .before .args .b) (omega arith))
 
--- src/bytes.rt:280:9
 returns-2 : tie.Need-returns-2
 unfolding digitValue
 returns-2 c = rw (le-leb 48 _ (c .before .if1 .left), le-leb _ 57 (c .if2 .taken))
 
--- src/bytes.rt:283:9
 returns-3 : tie.Need-returns-3
 unfolding digitValue
 returns-3 c = rw (le-leb 48 (c .before .before .before .args .b) (omega arith), lt-leb _ 57 (c .before .if2 .left), lt-leb 65 _ (c .if3 .taken), lt-leb 97 (c .before .before .before .args .b) (omega arith))
 
--- src/bytes.rt:286:16
 add-result : tie.Need-add-result
 add-result c = omega arith
 
--- src/bytes.rt:286:9
 returns-4 : tie.Need-returns-4
 unfolding digitValue
 returns-4 c = rw (le-leb 48 (c .before .before .before .before .args .b) (omega arith), lt-leb (c .before .before .before .before .args .b) 57 (omega arith), le-leb 65 _ (c .before .if3 .left), le-leb _ 70 (c .if4 .taken))
 
--- src/bytes.rt:289:9
 returns-5 : tie.Need-returns-5
 unfolding digitValue
 returns-5 c = rw (le-leb 48 (c .before .before .before .before .before .args .b) (omega arith), lt-leb (c .before .before .before .before .before .args .b) 57 (omega arith), le-leb 65 (c .before .before .before .before .before .args .b) (omega arith), lt-leb _ 70 (c .before .if4 .left), lt-leb 97 _ (c .if5 .taken))
 
--- src/bytes.rt:292:16
 add-result-2 : tie.Need-add-result-2
 add-result-2 c = omega arith
 
--- src/bytes.rt:292:9
 returns-6 : tie.Need-returns-6
 unfolding digitValue
 returns-6 c = rw (le-leb 48 (c .before .before .before .before .before .before .args .b) (omega arith), lt-leb (c .before .before .before .before .before .before .args .b) 57 (omega arith), le-leb 65 (c .before .before .before .before .before .before .args .b) (omega arith), lt-leb (c .before .before .before .before .before .before .args .b) 70 (omega arith), le-leb 97 _ (c .before .if5 .left), le-leb _ 102 (c .if6 .taken))
 
--- src/bytes.rt:273:1
 returns-7 : tie.Need-returns-7
 unfolding digitValue
 returns-7 c = rw (le-leb 48 (c .before .before .before .before .before .before .args .b) (omega arith), lt-leb (c .before .before .before .before .before .before .args .b) 57 (omega arith), le-leb 65 (c .before .before .before .before .before .before .args .b) (omega arith), lt-leb (c .before .before .before .before .before .before .args .b) 70 (omega arith), le-leb 97 (c .before .before .before .before .before .before .args .b) (omega arith), lt-leb _ 102 (c .if6 .left))

@@ -15,39 +15,30 @@ Inv-loop a b i₀ i = (i ≤ length a) × (length a ≡ length b) × (drop i a �
 abbrev μ-loop : tie.MeasureT-loop
 μ-loop a b i₀ i = i
 
--- src/bytes.rt:302:9
 returns : tie.Need-returns Inv-loop μ-loop
 returns c = differ-length (c .before .args .a .now) (c .before .args .b .now) (c .if1 .taken)
 
--- src/bytes.rt:305:5
 loop-holds : tie.Need-loop-holds Inv-loop μ-loop
 loop-holds c = (omega arith, omega arith, ends-start (c .before .args .a .now) (c .before .args .b .now) (omega arith))
 
--- src/bytes.rt:306:9
 sub-i : tie.Need-sub-i Inv-loop μ-loop
 sub-i c = omega arith
 
--- src/bytes.rt:307:12
 shared-slice-read-if2 : tie.Need-shared-slice-read-if2 Inv-loop μ-loop
 shared-slice-read-if2 c = search needs
 
--- src/bytes.rt:307:20
 shared-slice-read-if2-2 : tie.Need-shared-slice-read-if2-2 Inv-loop μ-loop
 shared-slice-read-if2-2 c = search needs
 
--- src/bytes.rt:308:13
 returns-2 : tie.Need-returns-2 Inv-loop μ-loop
 returns-2 c = differ-at (c .before .before .before .before .before .before .args .a .now) (c .before .before .before .before .before .before .args .b .now) _ (c .if2 .taken)
 
--- src/bytes.rt:305:5
 loop-less : tie.Need-loop-less Inv-loop μ-loop
 loop-less c = omega arith
 
--- src/bytes.rt:305:5
 loop-again : tie.Need-loop-again Inv-loop μ-loop
 loop-again c = (omega arith, omega arith, ends-grow (c .before .before .before .before .before .before .args .a .now) (c .before .before .before .before .before .before .args .b .now) (c .before .before .before .before .loop .i) _ (omega arith) (omega arith) (omega arith) (c .if2 .left) (c .before .before .before .before .loop .inv .2))
 
--- src/bytes.rt:298:1
 returns-3 : tie.Need-returns-3 Inv-loop μ-loop
 returns-3 c = same-all (c .before .before .before .args .a .now) (c .before .before .before .args .b .now) (c .before .loop .i) (omega arith) (c .before .loop .inv .2)
 

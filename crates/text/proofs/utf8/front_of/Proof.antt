@@ -7,29 +7,23 @@ use Rattle.text.proofs.utf8.front_of.Tie as tie
 use Rattle.text.proofs.utf8.front_of.Reads as reads
 use Rattle.text.proofs.utf8.front_of.Lts as lts
 
--- src/utf8.rt:130:21
 enum-known-u : tie.Need-enum-known-u
 enum-known-u c = search needs
 
--- src/utf8.rt:132:13
 enum-known-u-2 : tie.Need-enum-known-u-2
 enum-known-u-2 c = search needs
 
--- src/utf8.rt:138:22
 enum-known-u-3 : tie.Need-enum-known-u-3
 enum-known-u-3 c = search needs
 
--- src/utf8.rt:126:1
 returns : tie.Need-returns
 unfolding wholeFront
 returns c = sym (ap wholeFront (c .before .u .given .1))
 
--- src/utf8.rt:126:1
 returns-2 : tie.Need-returns-2
 unfolding wholeFront
 returns-2 c = sym (ap wholeFront (c .before .u2 .given .1))
 
--- src/utf8.rt:126:1
 returns-3 : tie.Need-returns-3
 unfolding wholeFront
 returns-3 c = sym (ap wholeFront (c .before .u3 .given .1))

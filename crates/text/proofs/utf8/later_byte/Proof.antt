@@ -7,27 +7,21 @@ use Rattle.text.proofs.utf8.later_byte.Tie as tie
 use Rattle.text.proofs.utf8.later_byte.Reads as reads
 use Rattle.text.proofs.utf8.later_byte.Lts as lts
 
--- src/utf8.rt:88:28
 add-t5 : tie.Need-add-t5
 add-t5 c = omega arith
 
--- src/utf8.rt:88:28
 add-t6 : tie.Need-add-t6
 add-t6 c = omega arith
 
--- src/utf8.rt:88:9
 returns : tie.Need-returns
 returns c = later-last _ _ _ (c .if1 .taken)
 
--- src/utf8.rt:92:15
 add-t7 : tie.Need-add-t7
 add-t7 c = omega arith
 
--- src/utf8.rt:93:15
 sub-t8 : tie.Need-sub-t8
 sub-t8 c = omega arith
 
--- src/utf8.rt:83:1
 returns-2 : tie.Need-returns-2
 returns-2 c = later-more _ _ _ (omega arith)
 

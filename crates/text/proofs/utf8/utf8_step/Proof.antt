@@ -10,49 +10,39 @@ use Rattle.text.proofs.utf8.utf8_step.Lts as lts
 use Rattle.text.proofs.utf8.first_byte.Reads as first-byte-reads
 use Rattle.text.proofs.utf8.later_byte.Reads as later-byte-reads
 
--- src/utf8.rt:105:21
 enum-known-u : tie.Need-enum-known-u
 enum-known-u c = search needs
 
--- src/utf8.rt:105:27
 first-byte-requires : tie.Need-first-byte-requires
 unfolding utf8Step bytesRead
 first-byte-requires c κs = rw (c .before .u .given .1) at (c .before .before .before .pre)
 
--- src/utf8.rt:107:13
 enum-known-u-2 : tie.Need-enum-known-u-2
 enum-known-u-2 c = search needs
 
--- src/utf8.rt:114:17
 returns : tie.Need-returns
 unfolding utf8Step bytesRead
 returns c = rw (c .before .before .u2 .given .1, lt-ltb _ _ (c .if1 .taken))
 
--- src/utf8.rt:117:17
 later-byte-requires : tie.Need-later-byte-requires
 unfolding utf8Step bytesRead
 later-byte-requires c κs = rw (c .before .before .before .u2 .given .1) at (c .before .before .before .before .before .pre)
 
--- src/utf8.rt:117:17
 returns-2 : tie.Need-returns-2
 unfolding utf8Step bytesRead
 returns-2 c = rw (c .before .before .before .before .u2 .given .1, le-ltb _ _ (c .before .before .if1 .left), le-leb _ _ (c .before .if2 .taken)) (c .later-byte .ensures)
 
--- src/utf8.rt:121:22
 enum-known-u-3 : tie.Need-enum-known-u-3
 enum-known-u-3 c = search needs
 
--- src/utf8.rt:100:1
 returns-3 : tie.Need-returns-3
 unfolding utf8Step bytesRead
 returns-3 c = rw (c .before .before .u .given .1) (c .first-byte .ensures)
 
--- src/utf8.rt:100:1
 returns-4 : tie.Need-returns-4
 unfolding utf8Step bytesRead
 returns-4 c = rw (c .before .before .before .u2 .given .1, le-ltb _ _ (c .before .if1 .left), lt-leb _ _ (c .if2 .left))
 
--- src/utf8.rt:100:1
 returns-5 : tie.Need-returns-5
 unfolding utf8Step bytesRead
 returns-5 c = rw (c .before .u3 .given .1)

@@ -21,36 +21,28 @@ Inv-loop s u₀ i₀ u i = (i ≤ length s) × After i u × (utf8 s ≡ feed utf
 abbrev μ-loop : tie.MeasureT-loop
 μ-loop s u₀ i₀ u i = length s - i
 
--- src/utf8.rt:148:5
 loop-holds : tie.Need-loop-holds Inv-loop μ-loop
 unfolding utf8
 loop-holds c = (omega arith, after-start, refl)
 
--- src/utf8.rt:149:26
 shared-slice-read-utf8-step : tie.Need-shared-slice-read-utf8-step Inv-loop μ-loop
 shared-slice-read-utf8-step c = search needs
 
--- src/utf8.rt:149:9
 utf8-step-requires : tie.Need-utf8-step-requires Inv-loop μ-loop
 utf8-step-requires c κs = let r = after-read _ _ (c .before .before .loop .inv .1) in omega arith
 
--- src/utf8.rt:150:9
 add-i : tie.Need-add-i Inv-loop μ-loop
 add-i c = omega arith
 
--- src/utf8.rt:148:5
 loop-less : tie.Need-loop-less Inv-loop μ-loop
 loop-less c = omega arith
 
--- src/utf8.rt:148:5
 loop-again : tie.Need-loop-again Inv-loop μ-loop
 loop-again c = (omega arith, after-next (c .before .before .before .loop .i) _ (c .before .before .before .loop .u) _ (c .before .before .before .loop .inv .1) (c .utf8-step .ensures), c .before .before .before .loop .inv .2 ∙ feed-turn utf8Step (c .before .before .before .loop .u) _ (c .before .before .before .before .before .args .s .now) (c .before .before .before .loop .i) (omega arith) (c .utf8-step .ensures))
 
--- src/utf8.rt:152:5
 front-of-requires : tie.Need-front-of-requires Inv-loop μ-loop
 front-of-requires c κs = search needs
 
--- src/utf8.rt:143:1
 returns : tie.Need-returns Inv-loop μ-loop
 returns c = c .front-of .ensures ∙ ap wholeFront (sym (c .before .before .loop .inv .2 ∙ feed-done utf8Step (c .before .before .loop .u) (c .before .before .before .before .args .s .now) (c .before .before .loop .i) (omega arith)))
 

@@ -12,51 +12,39 @@ use Rattle.text.proofs.switches.present.Reads as present-reads
 use Rattle.vectors.proofs.keys.no_keys.Reads as no-keys-reads
 use Rattle.vectors.proofs.show.line.Reads as line-reads
 
--- src/keys.rt:33:9
 present-requires : tie.Need-present-requires
 present-requires c κs = search needs
 
--- src/keys.rt:34:8
 is-keyed-requires : tie.Need-is-keyed-requires
 is-keyed-requires c κs = search needs
 
--- src/keys.rt:35:12
 is-keyed-requires-2 : tie.Need-is-keyed-requires-2
 is-keyed-requires-2 c κs = search needs
 
--- src/keys.rt:36:16
 same-keys-requires : tie.Need-same-keys-requires
 same-keys-requires c κs = (keyed-by _ (c .before .before .before .before .before .before .before .args .a .now) (sym (c .before .before .before .is-keyed .ensures) ∙ c .before .before .if1 .taken), keyed-by _ (c .before .before .before .before .before .before .before .args .b .now) (sym (c .before .is-keyed2 .ensures) ∙ c .if2 .taken))
 
--- src/keys.rt:37:35
 slice-aggregate-line : tie.Need-slice-aggregate-line
 slice-aggregate-line c = omega arith
 
--- src/keys.rt:37:17
 line-requires : tie.Need-line-requires
 line-requires c κs = search needs
 
--- src/keys.rt:38:17
 returns : tie.Need-returns
 returns c = search needs
 
--- src/keys.rt:40:31
 slice-aggregate-line-2 : tie.Need-slice-aggregate-line-2
 slice-aggregate-line-2 c = omega arith
 
--- src/keys.rt:40:13
 line-requires-2 : tie.Need-line-requires-2
 line-requires-2 c κs = search needs
 
--- src/keys.rt:41:13
 returns-2 : tie.Need-returns-2
 returns-2 c = search needs
 
--- src/keys.rt:44:5
 no-keys-requires : tie.Need-no-keys-requires
 no-keys-requires c κs = search needs
 
--- src/keys.rt:32:1
 returns-3 : tie.Need-returns-3
 returns-3 c = search needs
 

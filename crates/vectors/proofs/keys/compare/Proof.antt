@@ -12,71 +12,54 @@ use Rattle.vectors.proofs.keys.is_key.Reads as is-key-reads
 use Rattle.vectors.proofs.keys.no_keys.Reads as no-keys-reads
 use Rattle.vectors.proofs.keys.second.Reads as second-reads
 
--- src/keys.rt:69:22
 present-requires : tie.Need-present-requires
 present-requires c κs = search needs
 
--- src/keys.rt:69:11
 next-token-requires : tie.Need-next-token-requires
 next-token-requires c κs = search needs
 
--- src/keys.rt:70:23
 enum-known-kind : tie.Need-enum-known-kind
 enum-known-kind c = search needs
 
--- src/keys.rt:71:16
 is-key-requires : tie.Need-is-key-requires
 is-key-requires c κs = search needs
 
--- src/keys.rt:72:24
 sub-second : tie.Need-sub-second
 sub-second c = let w = next-ahead (c .before .before .before .before .before .before .present .result) (c .before .before .before .before .before .before .before .before .args .text .now) 0 (c .before .before .before .kind .given .0 .0) (c .before .before .before .kind .given .0 .1 .0) (c .before .before .before .kind .given .0 .1 .1 .0) (omega arith) (sym (c .before .before .before .before .before .next-token .ensures) ∙ c .before .before .before .kind .given .1) in omega arith
 
--- src/keys.rt:72:24
 part-second-start : tie.Need-part-second-start
 part-second-start c = let w = next-ahead (c .before .before .before .before .before .before .present .result) (c .before .before .before .before .before .before .before .before .args .text .now) 0 (c .before .before .before .kind .given .0 .0) (c .before .before .before .kind .given .0 .1 .0) (c .before .before .before .kind .given .0 .1 .1 .0) (omega arith) (sym (c .before .before .before .before .before .next-token .ensures) ∙ c .before .before .before .kind .given .1) in omega arith
 
--- src/keys.rt:72:24
 part-second-end : tie.Need-part-second-end
 part-second-end c = let w = next-ahead (c .before .before .before .before .before .before .present .result) (c .before .before .before .before .before .before .before .before .args .text .now) 0 (c .before .before .before .kind .given .0 .0) (c .before .before .before .kind .given .0 .1 .0) (c .before .before .before .kind .given .0 .1 .1 .0) (omega arith) (sym (c .before .before .before .before .before .next-token .ensures) ∙ c .before .before .before .kind .given .1) in omega arith
 
--- src/keys.rt:72:17
 second-requires : tie.Need-second-requires
 second-requires c κs = let w = next-ahead (c .before .before .before .before .before .before .before .present .result) (c .before .before .before .before .before .before .before .before .before .args .text .now) 0 (c .before .before .before .before .kind .given .0 .0) (c .before .before .before .before .kind .given .0 .1 .0) (c .before .before .before .before .kind .given .0 .1 .1 .0) (omega arith) (sym (c .before .before .before .before .before .before .next-token .ensures) ∙ c .before .before .before .before .kind .given .1) in omega arith
 
--- src/keys.rt:73:17
 returns : tie.Need-returns
 returns c = search needs
 
--- src/keys.rt:75:13
 no-keys-requires : tie.Need-no-keys-requires
 no-keys-requires c κs = search needs
 
--- src/keys.rt:77:25
 enum-told : tie.Need-enum-told
 enum-told c = search needs
 
--- src/keys.rt:77:25
 no-keys-requires-2 : tie.Need-no-keys-requires-2
 no-keys-requires-2 c κs = search needs
 
--- src/keys.rt:81:14
 enum-told-2 : tie.Need-enum-told-2
 enum-told-2 c = search needs
 
--- src/keys.rt:81:14
 no-keys-requires-3 : tie.Need-no-keys-requires-3
 no-keys-requires-3 c κs = search needs
 
--- src/keys.rt:68:1
 returns-2 : tie.Need-returns-2
 returns-2 c = search needs
 
--- src/keys.rt:68:1
 returns-3 : tie.Need-returns-3
 returns-3 c = search needs
 
--- src/keys.rt:68:1
 returns-4 : tie.Need-returns-4
 returns-4 c = search needs
 

@@ -12,71 +12,54 @@ use Rattle.vectors.proofs.keys.answer.Reads as answer-reads
 use Rattle.vectors.proofs.keys.is_key.Reads as is-key-reads
 use Rattle.vectors.proofs.keys.no_keys.Reads as no-keys-reads
 
--- src/keys.rt:51:22
 present-requires : tie.Need-present-requires
 present-requires c κs = search needs
 
--- src/keys.rt:51:11
 next-token-requires : tie.Need-next-token-requires
 next-token-requires c κs = search needs
 
--- src/keys.rt:52:23
 enum-known-kind : tie.Need-enum-known-kind
 enum-known-kind c = search needs
 
--- src/keys.rt:53:16
 is-key-requires : tie.Need-is-key-requires
 is-key-requires c κs = search needs
 
--- src/keys.rt:54:29
 sub-answer : tie.Need-sub-answer
 sub-answer c = let w = next-ahead (c .before .before .before .before .before .before .present .result) (c .before .before .before .before .before .before .before .before .before .args .text .now) (c .before .before .before .before .before .before .before .before .before .args .at) (c .before .before .before .kind .given .0 .0) (c .before .before .before .kind .given .0 .1 .0) (c .before .before .before .kind .given .0 .1 .1 .0) (c .before .before .before .before .before .before .before .before .before .pre) (sym (c .before .before .before .before .before .next-token .ensures) ∙ c .before .before .before .kind .given .1) in omega arith
 
--- src/keys.rt:54:29
 part-answer-start : tie.Need-part-answer-start
 part-answer-start c = let w = next-ahead (c .before .before .before .before .before .before .present .result) (c .before .before .before .before .before .before .before .before .before .args .text .now) (c .before .before .before .before .before .before .before .before .before .args .at) (c .before .before .before .kind .given .0 .0) (c .before .before .before .kind .given .0 .1 .0) (c .before .before .before .kind .given .0 .1 .1 .0) (c .before .before .before .before .before .before .before .before .before .pre) (sym (c .before .before .before .before .before .next-token .ensures) ∙ c .before .before .before .kind .given .1) in omega arith
 
--- src/keys.rt:54:29
 part-answer-end : tie.Need-part-answer-end
 part-answer-end c = let w = next-ahead (c .before .before .before .before .before .before .present .result) (c .before .before .before .before .before .before .before .before .before .args .text .now) (c .before .before .before .before .before .before .before .before .before .args .at) (c .before .before .before .kind .given .0 .0) (c .before .before .before .kind .given .0 .1 .0) (c .before .before .before .kind .given .0 .1 .1 .0) (c .before .before .before .before .before .before .before .before .before .pre) (sym (c .before .before .before .before .before .next-token .ensures) ∙ c .before .before .before .kind .given .1) in omega arith
 
--- src/keys.rt:54:17
 answer-requires : tie.Need-answer-requires
 answer-requires c κs = search needs
 
--- src/keys.rt:55:17
 returns : tie.Need-returns
 returns c = search needs
 
--- src/keys.rt:57:13
 no-keys-requires : tie.Need-no-keys-requires
 no-keys-requires c κs = search needs
 
--- src/keys.rt:59:25
 enum-told : tie.Need-enum-told
 enum-told c = search needs
 
--- src/keys.rt:59:25
 no-keys-requires-2 : tie.Need-no-keys-requires-2
 no-keys-requires-2 c κs = search needs
 
--- src/keys.rt:63:14
 enum-told-2 : tie.Need-enum-told-2
 enum-told-2 c = search needs
 
--- src/keys.rt:63:14
 no-keys-requires-3 : tie.Need-no-keys-requires-3
 no-keys-requires-3 c κs = search needs
 
--- src/keys.rt:48:1
 returns-2 : tie.Need-returns-2
 returns-2 c = search needs
 
--- src/keys.rt:48:1
 returns-3 : tie.Need-returns-3
 returns-3 c = search needs
 
--- src/keys.rt:48:1
 returns-4 : tie.Need-returns-4
 returns-4 c = search needs
 

@@ -12,83 +12,63 @@ use Rattle.lexer.proofs.token.put_token.Reads as put-token-reads
 use Rattle.text.proofs.switches.present.Reads as present-reads
 use Rattle.vectors.proofs.show.hex.Reads as hex-reads
 
--- src/show.rt:64:35
 present-requires : tie.Need-present-requires
 present-requires c κs = search needs
 
--- src/show.rt:64:69
 slice-aggregate-put-token : tie.Need-slice-aggregate-put-token
 slice-aggregate-put-token c = omega arith
 
--- src/show.rt:64:11
 put-token-requires : tie.Need-put-token-requires
 put-token-requires c κs = search needs
 
--- src/show.rt:65:43
 enum-known-n : tie.Need-enum-known-n
 enum-known-n c = search needs
 
--- src/show.rt:66:13
 print-decimal-requires : tie.Need-print-decimal-requires
 print-decimal-requires c κs = search needs
 
--- src/show.rt:67:42
 slice-aggregate-write-all : tie.Need-slice-aggregate-write-all
 slice-aggregate-write-all c = omega arith
 
--- src/show.rt:67:13
 write-all-requires : tie.Need-write-all-requires
 write-all-requires c κs = search needs
 
--- src/show.rt:69:21
 array-share-prefix-out : tie.Need-array-share-prefix-out
 array-share-prefix-out c = omega arith
 
--- src/show.rt:69:21
 slice-aggregate-hex : tie.Need-slice-aggregate-hex
 slice-aggregate-hex c = sym (length-take-le _ _ (omega arith))
 
--- src/show.rt:69:17
 hex-requires : tie.Need-hex-requires
 hex-requires c κs = search needs
 
--- src/show.rt:73:42
 enum-told : tie.Need-enum-told
 enum-told c = search needs
 
--- src/show.rt:73:42
 slice-aggregate-write-all-2 : tie.Need-slice-aggregate-write-all-2
 slice-aggregate-write-all-2 c = omega arith
 
--- src/show.rt:73:13
 write-all-requires-2 : tie.Need-write-all-requires-2
 write-all-requires-2 c κs = search needs
 
--- src/show.rt:76:42
 enum-told-2 : tie.Need-enum-told-2
 enum-told-2 c = search needs
 
--- src/show.rt:76:42
 slice-aggregate-write-all-3 : tie.Need-slice-aggregate-write-all-3
 slice-aggregate-write-all-3 c = omega arith
 
--- src/show.rt:76:13
 write-all-requires-3 : tie.Need-write-all-requires-3
 write-all-requires-3 c κs = search needs
 
--- src/show.rt:62:1
 returns : tie.Need-returns
 returns c = search needs
 
--- src/show.rt:62:1
 returns-2 : tie.Need-returns-2
 returns-2 c = search needs
 
--- src/show.rt:62:1
 returns-3 : tie.Need-returns-3
 returns-3 c = search needs
 
--- src/show.rt:62:1
 returns-4 : tie.Need-returns-4
 returns-4 c = search needs
 

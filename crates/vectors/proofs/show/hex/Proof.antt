@@ -14,31 +14,24 @@ Inv-loop s i₀ i-end i = i ≤ length s
 abbrev μ-loop : tie.MeasureT-loop
 μ-loop s i₀ i-end i = length s - i
 
--- src/show.rt:46:5
 loop-holds : tie.Need-loop-holds Inv-loop μ-loop
 loop-holds c = omega arith
 
--- src/show.rt:47:18
 shared-slice-read-hex-byte : tie.Need-shared-slice-read-hex-byte Inv-loop μ-loop
 shared-slice-read-hex-byte c = search needs
 
--- src/show.rt:47:9
 hex-byte-requires : tie.Need-hex-byte-requires Inv-loop μ-loop
 hex-byte-requires c κs = search needs
 
--- src/show.rt:46:9
 add-i : tie.Need-add-i Inv-loop μ-loop
 add-i c = omega arith
 
--- src/show.rt:46:5
 loop-less : tie.Need-loop-less Inv-loop μ-loop
 loop-less c = omega arith
 
--- src/show.rt:46:5
 loop-again : tie.Need-loop-again Inv-loop μ-loop
 loop-again c = omega arith
 
--- src/show.rt:45:1
 returns : tie.Need-returns Inv-loop μ-loop
 returns c = search needs
 

@@ -8,43 +8,33 @@ use Rattle.vectors.proofs.show.signed.Lts as lts
 use Rattle.io.proofs.print_decimal.Reads as print-decimal-reads
 use Rattle.io.proofs.write_all.Reads as write-all-reads
 
--- src/show.rt:53:38
 slice-aggregate-write-all : tie.Need-slice-aggregate-write-all
 slice-aggregate-write-all c = omega arith
 
--- src/show.rt:53:9
 write-all-requires : tie.Need-write-all-requires
 write-all-requires c κs = search needs
 
--- src/show.rt:54:18
 sub-k : tie.Need-sub-k
 sub-k c = down-fits (c .before .before .before .args .z) (c .before .before .before .fits .z) (c .before .before .if1 .taken)
 
--- src/show.rt:54:17
 cast-k : tie.Need-cast-k
 cast-k c = downward (c .before .before .before .args .z) (c .before .before .before .fits .z) (c .before .before .if1 .taken)
 
--- src/show.rt:55:42
 add-print-decimal : tie.Need-add-print-decimal
 add-print-decimal c = downward-more (c .before .before .before .args .z) (c .before .before .before .fits .z) (c .before .before .if1 .taken)
 
--- src/show.rt:55:9
 print-decimal-requires : tie.Need-print-decimal-requires
 print-decimal-requires c κs = search needs
 
--- src/show.rt:56:9
 returns : tie.Need-returns
 returns c = search needs
 
--- src/show.rt:58:38
 cast-print-decimal : tie.Need-cast-print-decimal
 cast-print-decimal c = upward (c .before .args .z) (c .before .fits .z) (c .if1 .left)
 
--- src/show.rt:58:5
 print-decimal-requires-2 : tie.Need-print-decimal-requires-2
 print-decimal-requires-2 c κs = search needs
 
--- src/show.rt:51:1
 returns-2 : tie.Need-returns-2
 returns-2 c = search needs
 

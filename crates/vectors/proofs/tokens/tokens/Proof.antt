@@ -21,75 +21,57 @@ Inv-loop text sw at₀ at = Unit {0}
 abbrev μ-loop : tie.MeasureT-loop
 μ-loop text sw at₀ at = length text + 1 - at
 
--- src/tokens.rt:6:9
 present-requires : tie.Need-present-requires Inv-loop μ-loop
 present-requires c κs = search needs
 
--- src/tokens.rt:8:5
 loop-holds : tie.Need-loop-holds Inv-loop μ-loop
 loop-holds c = tt
 
--- src/tokens.rt:9:15
 next-token-requires : tie.Need-next-token-requires Inv-loop μ-loop
 next-token-requires c κs = search needs
 
--- src/tokens.rt:10:27
 enum-known-kind : tie.Need-enum-known-kind Inv-loop μ-loop
 enum-known-kind c = search needs
 
--- src/tokens.rt:11:42
 sub-token : tie.Need-sub-token Inv-loop μ-loop
 sub-token c = let w = next-ahead (c .before .before .before .before .before .before .present .result) (c .before .before .before .before .before .before .before .before .args .text .now) (c .before .before .before .before .before .loop .at) (c .before .kind .given .0 .0) (c .before .kind .given .0 .1 .0) (c .before .kind .given .0 .1 .1 .0) (omega arith) (sym (c .before .before .before .next-token .ensures) ∙ c .before .kind .given .1) in omega arith
 
--- src/tokens.rt:11:42
 part-token-start : tie.Need-part-token-start Inv-loop μ-loop
 part-token-start c = let w = next-ahead (c .before .before .before .before .before .before .present .result) (c .before .before .before .before .before .before .before .before .args .text .now) (c .before .before .before .before .before .loop .at) (c .before .kind .given .0 .0) (c .before .kind .given .0 .1 .0) (c .before .kind .given .0 .1 .1 .0) (omega arith) (sym (c .before .before .before .next-token .ensures) ∙ c .before .kind .given .1) in omega arith
 
--- src/tokens.rt:11:42
 part-token-end : tie.Need-part-token-end Inv-loop μ-loop
 part-token-end c = let w = next-ahead (c .before .before .before .before .before .before .present .result) (c .before .before .before .before .before .before .before .before .args .text .now) (c .before .before .before .before .before .loop .at) (c .before .kind .given .0 .0) (c .before .kind .given .0 .1 .0) (c .before .kind .given .0 .1 .1 .0) (omega arith) (sym (c .before .before .before .next-token .ensures) ∙ c .before .kind .given .1) in omega arith
 
--- src/tokens.rt:11:17
 token-requires : tie.Need-token-requires Inv-loop μ-loop
 token-requires c κs = search needs
 
--- src/tokens.rt:12:17
 places-requires : tie.Need-places-requires Inv-loop μ-loop
 places-requires c κs = search needs
 
--- src/tokens.rt:8:5
 loop-less : tie.Need-loop-less Inv-loop μ-loop
 loop-less c = let w = next-ahead (c .before .before .before .before .before .before .before .before .before .present .result) (c .before .before .before .before .before .before .before .before .before .before .before .args .text .now) (c .before .before .before .before .before .before .before .before .loop .at) (c .before .before .before .before .kind .given .0 .0) (c .before .before .before .before .kind .given .0 .1 .0) (c .before .before .before .before .kind .given .0 .1 .1 .0) (omega arith) (sym (c .before .before .before .before .before .before .next-token .ensures) ∙ c .before .before .before .before .kind .given .1) in omega arith
 
--- src/tokens.rt:8:5
 loop-again : tie.Need-loop-again Inv-loop μ-loop
 loop-again c = tt
 
--- src/tokens.rt:15:23
 enum-known-place : tie.Need-enum-known-place Inv-loop μ-loop
 enum-known-place c = search needs
 
--- src/tokens.rt:16:17
 end-requires : tie.Need-end-requires Inv-loop μ-loop
 end-requires c κs = search needs
 
--- src/tokens.rt:17:17
 returns : tie.Need-returns Inv-loop μ-loop
 returns c = search needs
 
--- src/tokens.rt:19:27
 enum-known-number : tie.Need-enum-known-number Inv-loop μ-loop
 enum-known-number c = search needs
 
--- src/tokens.rt:20:17
 refused-requires : tie.Need-refused-requires Inv-loop μ-loop
 refused-requires c κs = search needs
 
--- src/tokens.rt:21:17
 returns-2 : tie.Need-returns-2 Inv-loop μ-loop
 returns-2 c = search needs
 
--- src/tokens.rt:5:1
 returns-3 : tie.Need-returns-3 Inv-loop μ-loop
 returns-3 c = search needs
 
