@@ -8,4 +8,5 @@ pub mod PlainLaws
 pub mod TallyLaws
 pub mod FillLaws
 pub mod PairLaws
+pub mod SpellingLaws
 pub mod CursorLaws

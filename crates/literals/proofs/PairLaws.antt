@@ -18,7 +18,7 @@ use Rattle.literals.specs.declared.decoder.Body.the-variants.{Quoted, Ra
 use Rattle.literals.specs.declared.decoder.Decoder.{Decoder}
 use Rattle.literals.specs.declared.decoder.Decoder.the-variants.{Plain, Verbatim, Bad}
 use Rattle.literals.specs.Content.{gives, quotedRefuses, plainStep, rawRefuses, rawStep, decodeStep, mayEnd, prepend, decoded, startOf, content, sameContent}
-use Rattle.literals.specs.InternalContent.{Steady, SteadyIf, FrontApart, Apart}
+use Rattle.literals.specs.InternalContent.{Steady, SteadyIf, QuotedIf, Telling, FrontApart, SpelledApart, Apart}
 use Rattle.literals.proofs.StepLaws.{decoded-turn}
 
 -- ---- first bytes
@@ -28,7 +28,7 @@ unfolding sameContent
 same-none none = refl
 same-none (some a) = refl
 
-none-first : (y : Option (List ℕ)) → sameContent none y ≡ false
+pub none-first : (y : Option (List ℕ)) → sameContent none y ≡ false
 unfolding sameContent
 none-first y = refl
 
@@ -83,12 +83,12 @@ steady-unknown body = record { is = λ e. absurd (subst T (sym e) tt) }
 -- ---- their contents, byte by byte
 
 -- what is refused stays so
-bad-none : (sw : Switches) (s : List ℕ) → decoded sw Bad s ≡ none
+pub bad-none : (sw : Switches) (s : List ℕ) → decoded sw Bad s ≡ none
 unfolding decoded decodeStep mayEnd prepend listed
 bad-none sw [] = refl
 bad-none sw (b ∷ s) = ap (prepend []) (bad-none sw s)
 
-steady-turn : (sw : Switches) (st : Decoder) → Steady st → (s : List ℕ) (i : ℕ) → i < length s → (getD s i 0 ≡ 0x5C → ⊥)
+pub steady-turn : (sw : Switches) (st : Decoder) → Steady st → (s : List ℕ) (i : ℕ) → i < length s → (getD s i 0 ≡ 0x5C → ⊥)
     → (decoded sw st (drop i s) ≡ none) ⊎ (decoded sw st (drop i s) ≡ prepend (getD s i 0 ∷ []) (decoded sw st (drop (i + 1) s)))
 unfolding listed prepend
 steady-turn sw st S s i h n = by (S .step sw (getD s i 0) n)
@@ -100,7 +100,7 @@ steady-turn sw st S s i h n = by (S .step sw (getD s i 0) n)
 
 -- two contents of which each is none, or goes on with a byte: they differ if the bytes do, or what comes after them
 module _ (p q : ℕ) (x y v w : Option (List ℕ)) (l : (x ≡ none) ⊎ (x ≡ prepend (p ∷ []) v)) (r : (y ≡ none) ⊎ (y ≡ prepend (q ∷ []) w)) where
-  turn-differ : (sameContent (prepend (p ∷ []) v) (prepend (q ∷ []) w) ≡ false) → sameContent x y ≡ false
+  pub turn-differ : (sameContent (prepend (p ∷ []) v) (prepend (q ∷ []) w) ≡ false) → sameContent x y ≡ false
   turn-differ e = by l r
     where
       by : (x ≡ none) ⊎ (x ≡ prepend (p ∷ []) v) → (y ≡ none) ⊎ (y ≡ prepend (q ∷ []) w) → sameContent x y ≡ false
@@ -117,24 +117,24 @@ pub record Alike (a b : List ℕ) (i : ℕ) : Type 0 where
 pub alike-start : (a b : List ℕ) → Alike a b 0
 alike-start a b = record { is = λ sw st su S U e. e }
 
-module _ {a b : List ℕ} {i : ℕ} (A : Alike a b i) (h : i < length a) (k : i < length b) (m : getD a i 0 ≡ 0x5C → ⊥) (n : getD b i 0 ≡ 0x5C → ⊥) where
-  differ-from : (sw : Switches) (st su : Decoder) → Steady st → Steady su
+module _ {a b : List ℕ} {i : ℕ} (A : Alike a b i) (h : i < length a) (k : i < length b) where
+  differ-from : (getD a i 0 ≡ 0x5C → ⊥) → (getD b i 0 ≡ 0x5C → ⊥) → (sw : Switches) (st su : Decoder) → Steady st → Steady su
       → sameContent (prepend (getD a i 0 ∷ []) (decoded sw st (drop (i + 1) a))) (prepend (getD b i 0 ∷ []) (decoded sw su (drop (i + 1) b))) ≡ false
       → sameContent (decoded sw st a) (decoded sw su b) ≡ false
-  differ-from sw st su S U e =
+  differ-from m n sw st su S U e =
       A .is sw st su S U (turn-differ (getD a i 0) (getD b i 0) _ _ _ _ (steady-turn sw st S a i h m) (steady-turn sw su U b i k n) e)
 
-  pub alike-more : getD a i 0 ≡ getD b i 0 → Alike a b (i + 1)
-  alike-more q =
+  pub alike-more : getD a i 0 ≡ getD b i 0 → (getD a i 0 ≡ 0x5C → ⊥) → Alike a b (i + 1)
+  alike-more q m =
       record {
-        is = λ sw st su S U e. differ-from sw st su S U
+        is = λ sw st su S U e. differ-from m (λ f. m (q ∙ f)) sw st su S U
             (byte-same (getD a i 0) (getD b i 0) (decoded sw st (drop (i + 1) a)) (decoded sw su (drop (i + 1) b)) q ∙ e);
       }
 
-  pub alike-apart : (getD a i 0 ≡ getD b i 0 → ⊥) → FrontApart a b true
-  alike-apart d =
+  pub alike-apart : {r : Bool} → (getD a i 0 ≡ getD b i 0 → ⊥) → Telling 0 (getD a i 0) (getD b i 0) r → FrontApart a b r
+  alike-apart d t =
       record {
-        is = λ e sw st su S U. differ-from sw st su S U
+        is = λ e sw st su S U. differ-from (t .is e .1) (t .is e .2) sw st su S U
             (byte-differ (getD a i 0) (getD b i 0) (decoded sw st (drop (i + 1) a)) (decoded sw su (drop (i + 1) b)) d);
       }
 
@@ -150,6 +150,21 @@ pub apart-front : {abody bbody : Body} {a b : List ℕ} {p q r : Bool} → Stead
     → Apart abody a bbody b r
 unfolding content
 apart-front {abody} {bbody} P e Q f F = record { is = λ g sw. F .is g sw (startOf abody) (startOf bbody) (P .is e) (Q .is f) }
+
+pub apart-spelled : {abody bbody : Body} {a b : List ℕ} {p q r : Bool} → QuotedIf abody p → p ≡ true → QuotedIf bbody q → q ≡ true → SpelledApart a b r
+    → Apart abody a bbody b r
+unfolding content startOf
+apart-spelled {abody} {bbody} {a} {b} P e Q f S =
+    record { is = λ g sw. (λ i. sameContent (content sw (P .is e i) a) (content sw (Q .is f i) b)) ∙ S .is g sw }
+
+pub not-telling : (due x y : ℕ) → Telling due x y false
+not-telling due x y = record { is = λ e. absurd (subst T (sym e) tt) }
+
+pub not-quoted : (body : Body) → QuotedIf body false
+not-quoted body = record { is = λ e. absurd (subst T (sym e) tt) }
+
+pub apart-yes : {abody bbody : Body} {a b : List ℕ} {r : Bool} → Apart abody a bbody b r → r ≡ true → Apart abody a bbody b true
+apart-yes A e = record { is = λ _. A .is e }
 
 pub apart-not : {abody bbody : Body} {a b : List ℕ} {r : Bool} → Apart abody a bbody b r → r ≡ true → (sw : Switches)
     → false ≡ sameContent (content sw abody a) (content sw bbody b)

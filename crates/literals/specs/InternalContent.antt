@@ -6,12 +6,15 @@ use mathlib.Core.Logic.{_⊎_}
 use mathlib.Core.Bool.{Bool, true, false, cond}
 use mathlib.Core.Option.{Option, none, some}
 use mathlib.Core.List.{List, [], _∷_}
+use lib.Dec.{eqb}
 use lib.ListN.{length, drop, getD}
 use Rattle.text.specs.declared.switches.Switches.{Switches}
 use Rattle.text.specs.declared.utf8.Few.{Few}
 use Rattle.text.specs.declared.utf8.Few.the-variants.{Zero, One}
+use Rattle.text.specs.Bytes.{is}
 use Rattle.text.specs.Utf8.{listed}
 use Rattle.literals.specs.declared.decoder.Body.{Body}
+use Rattle.literals.specs.declared.decoder.Body.the-variants.{Quoted}
 use Rattle.literals.specs.declared.decoder.Decoder.{Decoder}
 use Rattle.literals.specs.declared.decoder.Decoder.the-variants.{Plain, Escape, Hex, Verbatim, Letters, Digits, Pads, Bad}
 use Rattle.literals.specs.declared.compare.Cursor.{Cursor}
@@ -78,6 +81,26 @@ pub record SteadyIf (body : Body) (r : Bool) : Type 0 where
 -- what such decoders make of two runs of bytes is not the same, if the answer is true
 pub record FrontApart (a b : List ℕ) (r : Bool) : Type 0 where
   pub is : r ≡ true → (sw : Switches) (st su : Decoder) → Steady st → Steady su → sameContent (decoded sw st a) (decoded sw su b) ≡ false
+
+-- a body is quoted, if the answer is true
+pub record QuotedIf (body : Body) (r : Bool) : Type 0 where
+  pub is : r ≡ true → body ≡ Quoted
+
+-- nothing of an escape is due, and neither byte is a backslash, if the answer is true
+pub record Telling (due x y : ℕ) (r : Bool) : Type 0 where
+  pub is : r ≡ true → (due ≡ 0) × (x ≡ 0x5C → ⊥) × (y ≡ 0x5C → ⊥)
+
+-- the digits that are due after an escape's letter
+unfoldable pub letterDue : ℕ → ℕ
+letterDue b = cond (is "x" b) 2 (cond (is "u" b) 4 (cond (is "U" b) 8 0))
+
+-- what is due of an escape after one byte more: its letter (9), so many digits, or nothing
+unfoldable pub nextDue : (due b : ℕ) → ℕ
+nextDue due b = cond (eqb due 0) (cond (is "\\" b) 9 0) (cond (eqb due 9) (letterDue b) (due - 1))
+
+-- what two quoted bodies decode to is not the same, if the answer is true
+pub record SpelledApart (a b : List ℕ) (r : Bool) : Type 0 where
+  pub is : r ≡ true → (sw : Switches) → sameContent (decoded sw Plain a) (decoded sw Plain b) ≡ false
 
 -- two bodies have not the same content, if the answer is true
 pub record Apart (abody : Body) (a : List ℕ) (bbody : Body) (b : List ℕ) (r : Bool) : Type 0 where

@@ -7,6 +7,7 @@ use Rattle.literals.proofs.compare.front_apart.Statement.{statement}
 use Rattle.literals.proofs.compare.front_apart.Tie as tie
 use Rattle.literals.proofs.compare.front_apart.Reads as reads
 use Rattle.literals.proofs.compare.front_apart.Lts as lts
+use Rattle.literals.proofs.compare.tells.Reads as tells-reads
 
 abbrev Inv-loop : tie.InvT-loop
 Inv-loop a b i₀ i = Alike a b i
@@ -26,14 +27,14 @@ shared-slice-read-x c = search needs
 shared-slice-read-y : tie.Need-shared-slice-read-y Inv-loop μ-loop
 shared-slice-read-y c = search needs
 
+tells-requires : tie.Need-tells-requires Inv-loop μ-loop
+tells-requires c κs = search needs
+
 returns-2 : tie.Need-returns-2 Inv-loop μ-loop
-returns-2 c = front-unknown _ _
+returns-2 c = alike-apart (c .before .before .before .before .before .before .loop .inv) (omega arith) (omega arith) (c .before .if2 .taken) (c .tells .ensures)
 
 returns-3 : tie.Need-returns-3 Inv-loop μ-loop
 returns-3 c = front-unknown _ _
-
-returns-4 : tie.Need-returns-4 Inv-loop μ-loop
-returns-4 c = alike-apart (c .before .before .before .before .before .before .before .loop .inv) (omega arith) (omega arith) (c .before .before .if2 .left) (c .before .if3 .left) (c .if4 .taken)
 
 add-i : tie.Need-add-i Inv-loop μ-loop
 add-i c = omega arith
@@ -42,10 +43,10 @@ loop-less : tie.Need-loop-less Inv-loop μ-loop
 loop-less c = omega arith
 
 loop-again : tie.Need-loop-again Inv-loop μ-loop
-loop-again c = alike-more (c .before .before .before .before .before .before .before .loop .inv) (omega arith) (omega arith) (c .before .before .if2 .left) (c .before .if3 .left) (c .if4 .left)
+loop-again c = alike-more (c .before .before .before .before .before .before .loop .inv) (omega arith) (omega arith) (c .before .if2 .left) (c .if3 .left)
 
-returns-5 : tie.Need-returns-5 Inv-loop μ-loop
-returns-5 c = front-unknown _ _
+returns-4 : tie.Need-returns-4 Inv-loop μ-loop
+returns-4 c = front-unknown _ _
 
 pub front-apart-spec : {M : Type 1} → statement M
 front-apart-spec =
@@ -57,10 +58,10 @@ front-apart-spec =
     returns
     shared-slice-read-x
     shared-slice-read-y
+    tells-requires
     returns-2
     returns-3
-    returns-4
     add-i
     loop-less
     loop-again
-    returns-5)
+    returns-4)
