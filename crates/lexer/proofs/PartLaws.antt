@@ -19,7 +19,8 @@ use Rattle.literals.specs.declared.decoder.Body.{Body}
 use Rattle.literals.specs.declared.decoder.Body.the-variants as Y
 use Rattle.literals.specs.declared.decoder.Decoder.the-variants as D
 use Rattle.literals.specs.declared.content.Written.the-variants as W
-use Rattle.literals.specs.Content.{decodeStep, mayEnd, prepend, decoded, startOf, content, onlyUtf8, contentOf, fitted, placed}
+use Rattle.literals.specs.Content.{decodeStep, mayEnd, prepend, decoded, startOf, content, onlyUtf8, contentOf, fitted, placed, sameContent}
+use Rattle.literals.specs.InternalContent.{Apart}
 use Rattle.literals.specs.declared.number.Meaning.{Meaning}
 use Rattle.literals.specs.declared.number.Meaning.the-variants as N
 use Rattle.literals.specs.Number.{number}
@@ -31,10 +32,11 @@ use Rattle.lexer.specs.declared.closing.Block.the-variants as B
 use Rattle.lexer.specs.declared.item.TokenKind.{TokenKind}
 use Rattle.lexer.specs.declared.item.Found.{Found}
 use Rattle.lexer.specs.declared.item.Found.the-variants as F
+use Rattle.lexer.specs.declared.token.Part.{Part}
 use Rattle.lexer.specs.Closing.{closing, block, notNewline}
 use Rattle.lexer.specs.Token.{Form, mark, word, text, bytes, integer, decimal, Item, gap, token, fault, blockItem, comment, contentItem, closedItem, hasEscapes, stringItem, stringForm, rawItem, wordItem, meantItem, numberItem, smallItem, itemOf, item, itemAt, keyContent, wholeItem, tokenContent}
 use Rattle.lexer.specs.Answer.{kindOf, found, foundAt}
-use Rattle.lexer.specs.Internal.{isKeyKind, hasContent, Keyed, KeyedAs, PartIs}
+use Rattle.lexer.specs.Internal.{isKeyKind, hasContent, Keyed, KeyedAs, PartIs, OtherIf}
 use Rattle.lexer.proofs.ClosingLaws.{closed-within}
 use Rattle.lexer.proofs.PlaceLaws.{there, small-b, small-r, small-other, raw-opens, raw-fails}
 use Rattle.lexer.proofs.NextLaws.{found-token, item-there}
@@ -402,3 +404,15 @@ part-content sw s l true body y e = only (content sw body l) (e ∙ y .is) ∙ s
     only none e = e
     only (some x) e = ap some (chosen (isUtf8 x) x (y .content) e .1)
 part-content sw s l false body y e = e
+
+-- ---- a string or key against a body
+
+module _ (sw : Switches) (s : List ℕ) (p : Part) (body : Body) where
+  pub part-same : (t : List ℕ) → Keyed sw s → PartIs sw s p
+      → sameContent (content sw (p .body) (take (p .to - p .from) (drop (p .from) s))) (content sw body t) ≡ sameContent (tokenContent sw s) (content sw body t)
+  part-same t y i =
+      ap (λ (o : Option (List ℕ)). sameContent o (content sw body t)) (part-content sw s (take (p .to - p .from) (drop (p .from) s)) (p .istext) (p .body) y (i .holds))
+
+  pub part-other : {t : List ℕ} {r : Bool} → Keyed sw s → PartIs sw s p → Apart (p .body) (take (p .to - p .from) (drop (p .from) s)) body t r
+      → OtherIf sw s body t r
+  part-other {t} y i a = record { is = λ e. sym (part-same t y i) ∙ a .is e sw }

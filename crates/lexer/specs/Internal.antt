@@ -9,7 +9,8 @@ use mathlib.Core.Option.{Option, none, some}
 use lib.ListN.{length, take, drop}
 use Rattle.text.specs.declared.switches.Switches.{Switches}
 use Rattle.text.specs.Bytes.{isWordByte, isNumberByte, is}
-use Rattle.literals.specs.Content.{contentOf}
+use Rattle.literals.specs.declared.decoder.Body.{Body}
+use Rattle.literals.specs.Content.{content, contentOf, sameContent}
 use Rattle.lexer.specs.declared.closing.Closing.{Closing}
 use Rattle.lexer.specs.declared.closing.Closing.the-variants as C
 use Rattle.lexer.specs.declared.closing.Block.{Block}
@@ -99,3 +100,7 @@ pub record PartIs (sw : Switches) (s : List ℕ) (p : Part) : Type 0 where
 -- where r is true they are a word, and so their own content
 pub record WordIf (sw : Switches) (s : List ℕ) (r : Bool) : Type 0 where
   pub own : r ≡ true → tokenContent sw s ≡ some s
+
+-- where r is true their content is not that of a body
+pub record OtherIf (sw : Switches) (s : List ℕ) (body : Body) (t : List ℕ) (r : Bool) : Type 0 where
+  pub is : r ≡ true → sameContent (tokenContent sw s) (content sw body t) ≡ false

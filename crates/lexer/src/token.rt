@@ -3,9 +3,9 @@ ghost use mathlib.Core.Path.{_≡_};
 ghost use mathlib.Core.Option.{some};
 ghost use Prim.Native.Nat.{_<_, _+_};
 ghost use lib.ListN.{length, drop, getD};
-ghost use Rattle.literals.specs.Content.{fitted, placed, sameContent};
+ghost use Rattle.literals.specs.Content.{content, fitted, placed, sameContent};
 ghost use Rattle.lexer.specs.Token.{stringItem, rawItem, smallItem, tokenContent};
-ghost use Rattle.lexer.specs.Internal.{isKeyKind, hasContent, Keyed, KeyedAs, PartIs, WordIf};
+ghost use Rattle.lexer.specs.Internal.{isKeyKind, hasContent, Keyed, KeyedAs, PartIs, WordIf, OtherIf};
 use super::item::Found;
 use super::item::TokenKind;
 use super::item::byte_at;
@@ -15,10 +15,10 @@ use super::item::opens_raw;
 use super::runs::Run;
 use super::runs::run_end;
 use literals::compare::same_content;
+use literals::compare::written_apart;
 use literals::content::Written;
 use literals::content::write_content;
 use literals::decoder::Body;
-use text::bytes::same_bytes;
 use text::switches::Switches;
 
 // Where a string or key holds its content, and how it is decoded.
@@ -103,9 +103,8 @@ fn r_part(sw: Switches, token: &[u8]) -> Part
     word_part(sw, token)
 }
 
-// Where a string or key holds its content, by its first byte: what begins with no quote, `b` or `r` is a word. Asked for every key
-// of an object at each new one, so the byte is compared: looking it up in the table of classes costs much more. Public for the
-// crates above only, which show that it is one.
+// Where a string or key holds its content, by its first byte: what begins with no quote, `b` or `r` is a word. The byte is
+// compared: looking it up in the table of classes costs much more. Public for the crates above only, which show that it is one.
 pub fn part_of(sw: Switches, token: &[u8]) -> Part
     requires { ⌜ Keyed sw (now token) ⌝ }
     ensures { λ r. ⌜ PartIs sw (now (token .entry)) r ⌝ }
@@ -142,7 +141,7 @@ fn is_key_kind(kind: TokenKind) -> bool
     }
 }
 
-// Whether the bytes are one string or key. Public for the crates above only, which show so what `same_keys` asks.
+// Whether the bytes are one string or key. Public for the crates above only, which show so what `part_of` and `content_is` ask.
 pub fn is_keyed(sw: Switches, token: &[u8]) -> bool
     ensures { λ r. ⌜ r ≡ hasContent (tokenContent sw (now (token .entry))) ⌝ }
 {
@@ -173,7 +172,31 @@ pub fn put_token(sw: Switches, token: &[u8], out: &mut [u8]) -> Written
     Written::Refused
 }
 
-// Whether a string or key is a word, by its first byte. False says nothing: words begin with `b` or `r` as strings do.
+// ---- contents against each other
+
+// Whether a string or key that begins with a `b` is a word.
+fn is_b_word(sw: Switches, token: &[u8]) -> bool
+    requires { ⌜ getD (now token) 0 0 ≡ 98 ⌝ }
+    requires { ⌜ KeyedAs sw (now token) (smallItem sw (getD (now token) 0 0) (drop 1 (now token))) ⌝ }
+    ensures { λ r. ⌜ WordIf sw (now (token .entry)) r ⌝ }
+{
+    let b = byte_at(token, 1);
+    if b == b'"' {
+        return false;
+    }
+    if opens_base64(sw, token, 1) {
+        return false;
+    }
+    if b == b'r' {
+        if opens_raw(byte_at(token, 2)) {
+            return false;
+        }
+        return true;
+    }
+    true
+}
+
+// Whether a string or key is a word, by its first bytes.
 fn is_word(sw: Switches, token: &[u8]) -> bool
     requires { ⌜ Keyed sw (now token) ⌝ }
     ensures { λ r. ⌜ WordIf sw (now (token .entry)) r ⌝ }
@@ -183,42 +206,62 @@ fn is_word(sw: Switches, token: &[u8]) -> bool
         return false;
     }
     if b == b'b' {
-        return false;
+        return is_b_word(sw, token);
     }
     if b == b'r' {
-        return false;
+        if opens_raw(byte_at(token, 1)) {
+            return false;
+        }
+        return true;
     }
     true
 }
 
-// Whether two strings or keys have the same content, decoded side by side.
-fn same_parts(sw: Switches, a: &[u8], b: &[u8]) -> bool
-    requires { ⌜ Keyed sw (now a) ⌝ }
-    requires { ⌜ Keyed sw (now b) ⌝ }
-    ensures { λ r. ⌜ r ≡ sameContent (tokenContent sw (now (a .entry))) (tokenContent sw (now (b .entry))) ⌝ }
+// Whether a string or key, whose part this is, is seen to have another content than a body has.
+fn part_apart(sw: Switches, token: &[u8], part: Part, body: Body, s: &[u8]) -> bool
+    requires { ⌜ Keyed sw (now token) ⌝ }
+    requires { ⌜ PartIs sw (now token) part ⌝ }
+    ensures { λ r. ⌜ OtherIf sw (now (token .entry)) body (now (s .entry)) r ⌝ }
 {
-    let p = part_of(sw, a);
-    let q = part_of(sw, b);
-    let abody = p.body;
-    let afrom = p.from;
-    let ato = p.to;
-    let bbody = q.body;
-    let bfrom = q.from;
-    let bto = q.to;
-    same_content(sw, abody, &a[afrom..ato], bbody, &b[bfrom..bto])
+    let own = part.body;
+    let from = part.from;
+    let to = part.to;
+    written_apart(own, &token[from..to], body, s)
 }
 
-// Whether two strings or keys have the same content; two words are their own. Public for the crates above only, which show that
-// they are such.
-pub fn same_keys(sw: Switches, a: &[u8], b: &[u8]) -> bool
-    requires { ⌜ Keyed sw (now a) ⌝ }
-    requires { ⌜ Keyed sw (now b) ⌝ }
-    ensures { λ r. ⌜ r ≡ sameContent (tokenContent sw (now (a .entry))) (tokenContent sw (now (b .entry))) ⌝ }
+// Whether a string or key is seen to have another content than a body has: asked of those in quotes and of words, whose parts
+// are known at once.
+fn told_apart(sw: Switches, token: &[u8], body: Body, s: &[u8]) -> bool
+    requires { ⌜ Keyed sw (now token) ⌝ }
+    ensures { λ r. ⌜ OtherIf sw (now (token .entry)) body (now (s .entry)) r ⌝ }
 {
-    if is_word(sw, a) {
-        if is_word(sw, b) {
-            return same_bytes(a, b);
-        }
+    if byte_at(token, 0) == b'"' {
+        return part_apart(
+            sw,
+            token,
+            string_part(sw, token, true, Body::Quoted, 0, 0),
+            body,
+            s,
+        );
     }
-    same_parts(sw, a, b)
+    if is_word(sw, token) {
+        return part_apart(sw, token, word_part(sw, token), body, s);
+    }
+    false
+}
+
+// Whether the content of a string or key is that of a body. Asked for every key of an object at each new one, whose body is known
+// by then. Public for the crates above only, which show that it is one.
+pub fn content_is(sw: Switches, token: &[u8], body: Body, s: &[u8]) -> bool
+    requires { ⌜ Keyed sw (now token) ⌝ }
+    ensures { λ r. ⌜ r ≡ sameContent (tokenContent sw (now (token .entry))) (content sw body (now (s .entry))) ⌝ }
+{
+    if told_apart(sw, token, body, s) {
+        return false;
+    }
+    let part = part_of(sw, token);
+    let own = part.body;
+    let from = part.from;
+    let to = part.to;
+    same_content(sw, own, &token[from..to], body, s)
 }

@@ -11,7 +11,8 @@ use lib.ListN.{length, getD, set, length-set}
 use lib.Seq.{sets, getD-set-same, getD-set-other}
 use Rattle.text.specs.declared.switches.Switches.{Switches}
 use Rattle.text.specs.Bytes.{sameBytes}
-use Rattle.literals.specs.Content.{sameContent}
+use Rattle.literals.specs.declared.decoder.Body.{Body}
+use Rattle.literals.specs.Content.{content, sameContent}
 use Rattle.lexer.specs.Token.{tokenContent}
 use Rattle.lexer.specs.Internal.{Keyed}
 use Rattle.reader.specs.Syntax.{holds}
@@ -98,11 +99,11 @@ module _ (sw : Switches) (s tab : List ℕ) (from m : ℕ) (w : List ℕ) where
     pub walk-end : (x : ℕ) → Walk sw s tab from x m w → m ≤ x → FoundKey sw s tab from m a e false
     walk-end x A h = record { is = λ u U ks C. sym (ap (holds ks) (key-unique sw s a e u w U K) ∙ A .same-as ks C ∙ end-is x (A .keys) (A .chain) h) }
 
--- what `same_keys` answered of two keys
-pub same-told : (sw : Switches) (s : List ℕ) (a e b f : ℕ) (v w : List ℕ) (r : Bool) → KeyAt sw s a e v → KeyAt sw s b f w
-    → r ≡ sameContent (tokenContent sw (bytesAt s a e)) (tokenContent sw (bytesAt s b f)) → r ≡ sameBytes v w
+-- what `content_is` answered of one key and the body of another
+pub same-told : (sw : Switches) (s : List ℕ) (a e : ℕ) (v : List ℕ) (body : Body) (t w : List ℕ) (r : Bool) → KeyAt sw s a e v → content sw body t ≡ some w
+    → r ≡ sameContent (tokenContent sw (bytesAt s a e)) (content sw body t) → r ≡ sameBytes v w
 unfolding sameContent
-same-told sw s a e b f v w r p q h = h ∙ (λ i. sameContent (p .holds i) (q .holds i))
+same-told sw s a e v body t w r p q h = h ∙ (λ i. sameContent (p .holds i) (q i))
 
 pub keyed : (sw : Switches) (s : List ℕ) (a e : ℕ) (w : List ℕ) → KeyAt sw s a e w → Keyed sw (bytesAt s a e)
 keyed sw s a e w k = record { content = w; is = k .holds }

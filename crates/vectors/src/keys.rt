@@ -4,8 +4,9 @@ ghost use lib.ListN.{length};
 use lexer::item::Next;
 use lexer::item::TokenKind;
 use lexer::item::next_token;
+use lexer::token::content_is;
 use lexer::token::is_keyed;
-use lexer::token::same_keys;
+use lexer::token::part_of;
 use text::switches::present;
 
 // A key is a word or a text string.
@@ -33,7 +34,11 @@ fn answer(a: &[u8], b: &[u8]) {
     let sw = present();
     if is_keyed(sw, a) {
         if is_keyed(sw, b) {
-            if same_keys(sw, a, b) {
+            let part = part_of(sw, b);
+            let body = part.body;
+            let from = part.from;
+            let to = part.to;
+            if content_is(sw, a, body, &b[from..to]) {
                 super::show::line(b"same");
                 return;
             }
