@@ -98,11 +98,12 @@ pub record Within (b : Lent) (start stop : ℕ) (replacement : List ℕ) : Type 
   pub ends : stop ≤ b .used
   pub short : length replacement ≤ 65536
 
--- the answer and the buffers of a correction, once the text has been read; and once start and stop of the value are known
+-- the answer and the buffers of a correction, once the text has been read
 abbrev pub CorrectsRead : Switches → (words : ℕ) → Lent → (node : ℕ) (replacement : List ℕ) → Change → (text journal table : List ℕ) → Type 0
 CorrectsRead sw words b node replacement r text journal table =
     Shows (decided sw words b (correctionRefusal sw words b node replacement) (withCorrection sw words b node replacement)) r text journal table
 
+-- the answer and the buffers of a correction, once start and stop of the value are known
 abbrev pub Replaces : Switches → (words : ℕ) → Lent → (start stop : ℕ) (replacement : List ℕ) → Change → (text journal table : List ℕ) → Type 0
 Replaces sw words b start stop replacement r text journal table =
     Shows (decided sw words b (replaceRefusal sw words b start stop replacement) (withReplacement b start stop replacement)) r text journal table

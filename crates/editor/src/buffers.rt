@@ -17,7 +17,7 @@ pub fn put_at(src: &[u8], dst: &mut [u8], at: usize)
 }
 
 // Makes the bytes of `dst` from `from` to before `to` zero. If there are none between, it changes nothing.
-pub fn zero_out(dst: &mut [u8], from: usize, to: usize)
+fn zero_out(dst: &mut [u8], from: usize, to: usize)
     requires { ⌜ to ≤ length (now dst) ⌝ }
     ensures { λ _. ⌜ now (dst .exit) ≡ overwritten from (replicate (to - from) 0) (now (dst .entry)) ⌝ }
 {

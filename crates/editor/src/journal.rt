@@ -25,7 +25,7 @@ fn put_number(dst: &mut [u8], at: usize, n: usize)
 }
 
 // The number that stands in four bytes from `at` on.
-pub fn number_at(s: &[u8], at: usize) -> usize
+fn number_at(s: &[u8], at: usize) -> usize
     requires { ⌜ at + 4 ≤ length (now s) ⌝ }
     ensures { λ r. ⌜ (r ≡ fromLe32 (drop at (now (s .entry)))) × (r < 4294967296) ⌝ }
 {
