@@ -13,14 +13,15 @@ use lib.Seq.{take-all}
 use borrow.Author.Tests.{eq-eqb, ne-eqb, lt-ltb}
 use Rattle.text.specs.declared.switches.Switches.{Switches}
 use Rattle.text.specs.Bytes.{front, begins, is, Class, classOf, classNumber, isWordByte, isNumberByte}
-use Rattle.text.specs.Utf8.{isUtf8, listed}
+use Rattle.text.specs.Utf8.{isUtf8}
 use Rattle.text.proofs.ClassLaws.{classAt, class-by, quote-number}
 use Rattle.literals.specs.declared.decoder.Body.{Body}
 use Rattle.literals.specs.declared.decoder.Body.the-variants as Y
 use Rattle.literals.specs.declared.decoder.Decoder.the-variants as D
 use Rattle.literals.specs.declared.content.Written.the-variants as W
-use Rattle.literals.specs.Content.{decodeStep, mayEnd, prepend, decoded, startOf, content, onlyUtf8, contentOf, fitted, placed, sameContent}
+use Rattle.literals.specs.Content.{decoded, startOf, content, onlyUtf8, contentOf, fitted, placed, sameContent}
 use Rattle.literals.specs.InternalContent.{Apart}
+use Rattle.literals.proofs.PairLaws.{letters-own}
 use Rattle.literals.specs.declared.number.Meaning.{Meaning}
 use Rattle.literals.specs.declared.number.Meaning.the-variants as N
 use Rattle.literals.specs.Number.{number}
@@ -141,11 +142,6 @@ module _ (sw : Switches) (s : List ℕ) (isText : Bool) (head q : ℕ) (h : head
 
 -- ---- words
 
-letters : (sw : Switches) (s : List ℕ) → decoded sw D.Letters s ≡ some s
-unfolding decoded decodeStep mayEnd prepend listed
-letters sw [] = refl
-letters sw (b ∷ s) = ap (prepend (b ∷ [])) (letters sw s)
-
 pub word-part : (sw : Switches) (s : List ℕ) → tokenContent sw s ≡ some s
     → PartIs sw s (record { istext = false; body = Y.Word; from = 0; to = length s })
 unfolding contentOf content startOf
@@ -153,7 +149,7 @@ word-part sw s e =
     record {
       forward = omega arith;
       inside = omega arith;
-      holds = ap (decoded sw D.Letters) (take-all (length s - 0) s (omega arith)) ∙ letters sw s ∙ sym e;
+      holds = ap (decoded sw D.Letters) (take-all (length s - 0) s (omega arith)) ∙ letters-own sw s ∙ sym e;
     }
 
 word-whole : (b : ℕ) (l c : List ℕ) → wholeItem (length l) (wordItem b l) ≡ some c → c ≡ b ∷ l

@@ -3,7 +3,7 @@
 use mathlib.Core.Path.{_≡_, refl, sym, ap, _∙_, subst}
 use mathlib.Core.Logic.{_⊎_, inl, inr}
 use Prim.Native.Nat.{ℕ, _+_, _<_}
-use mathlib.Core.Bool.{Bool, true, false, cond, _&&_}
+use mathlib.Core.Bool.{Bool, true, false, not, cond, _&&_}
 use mathlib.Core.Option.{Option, none, some}
 use mathlib.Core.List.{List, [], _∷_}
 use lib.Dec.{T}
@@ -16,9 +16,9 @@ use Rattle.text.specs.Utf8.{listed}
 use Rattle.literals.specs.declared.decoder.Body.{Body}
 use Rattle.literals.specs.declared.decoder.Body.the-variants.{Quoted, Raw, Word}
 use Rattle.literals.specs.declared.decoder.Decoder.{Decoder}
-use Rattle.literals.specs.declared.decoder.Decoder.the-variants.{Plain, Verbatim, Bad}
+use Rattle.literals.specs.declared.decoder.Decoder.the-variants.{Plain, Verbatim, Letters, Bad}
 use Rattle.literals.specs.Content.{gives, quotedRefuses, plainStep, rawRefuses, rawStep, decodeStep, mayEnd, prepend, decoded, startOf, content, sameContent}
-use Rattle.literals.specs.InternalContent.{Steady, SteadyIf, QuotedIf, Telling, FrontApart, SpelledApart, Apart}
+use Rattle.literals.specs.InternalContent.{Steady, SteadyIf, VerbatimIf, QuotedIf, Telling, FrontApart, SpelledApart, Apart}
 use Rattle.literals.proofs.StepLaws.{decoded-turn}
 
 -- ---- first bytes
@@ -156,6 +156,54 @@ pub apart-spelled : {abody bbody : Body} {a b : List ℕ} {p q r : Bool} → Quo
 unfolding content startOf
 apart-spelled {abody} {bbody} {a} {b} P e Q f S =
     record { is = λ g sw. (λ i. sameContent (content sw (P .is e i) a) (content sw (Q .is f i) b)) ∙ S .is g sw }
+
+-- ---- bodies in which all bytes stand for themselves
+
+pub letters-own : (sw : Switches) (s : List ℕ) → decoded sw Letters s ≡ some s
+unfolding decoded decodeStep mayEnd prepend listed
+letters-own sw [] = refl
+letters-own sw (b ∷ s) = ap (prepend (b ∷ [])) (letters-own sw s)
+
+raw-own : (sw : Switches) (s : List ℕ) → (decoded sw Verbatim s ≡ none) ⊎ (decoded sw Verbatim s ≡ some s)
+unfolding decoded decodeStep rawStep mayEnd prepend listed
+raw-own sw [] = inr refl
+raw-own sw (b ∷ s) = by (rawRefuses sw b) (raw-own sw s)
+  where
+    by : (t : Bool) → (decoded sw Verbatim s ≡ none) ⊎ (decoded sw Verbatim s ≡ some s)
+        → (prepend (listed (cond t (gives Bad Zero) (gives Verbatim (One b)) .out)) (decoded sw (cond t (gives Bad Zero) (gives Verbatim (One b)) .state) s) ≡ none)
+        ⊎ (prepend (listed (cond t (gives Bad Zero) (gives Verbatim (One b)) .out)) (decoded sw (cond t (gives Bad Zero) (gives Verbatim (One b)) .state) s) ≡ some (b ∷ s))
+    by true h = inl (ap (prepend []) (bad-none sw s))
+    by false (inl e) = inl (ap (prepend (b ∷ [])) e)
+    by false (inr e) = inr (ap (prepend (b ∷ [])) e)
+
+module _ {body : Body} where
+  pub verbatim-raw : body ≡ Raw → VerbatimIf body true
+  unfolding content startOf
+  verbatim-raw e = record { is = λ _. rw e (λ sw s. raw-own sw s) }
+
+  pub verbatim-word : body ≡ Word → VerbatimIf body true
+  unfolding content startOf
+  verbatim-word e = record { is = λ _. rw e (λ sw s. inr (letters-own sw s)) }
+
+pub verbatim-unknown : (body : Body) → VerbatimIf body false
+verbatim-unknown body = record { is = λ e. absurd (subst T (sym e) tt) }
+
+pub apart-verbatim : {abody bbody : Body} {a b : List ℕ} {p q r : Bool} → VerbatimIf abody p → p ≡ true → VerbatimIf bbody q → q ≡ true
+    → r ≡ sameBytes a b → Apart abody a bbody b (not r)
+unfolding sameContent
+apart-verbatim {abody} {bbody} {a} {b} {r = r} P e Q f h = record { is = λ g sw. by sw (P .is e sw a) (Q .is f sw b) (differ r h g) }
+  where
+    differ : (t : Bool) → t ≡ sameBytes a b → not t ≡ true → sameBytes a b ≡ false
+    differ true k g = absurd (subst T (sym g) tt)
+    differ false k g = sym k
+
+    by : (sw : Switches) → (content sw abody a ≡ none) ⊎ (content sw abody a ≡ some a) → (content sw bbody b ≡ none) ⊎ (content sw bbody b ≡ some b)
+        → sameBytes a b ≡ false → sameContent (content sw abody a) (content sw bbody b) ≡ false
+    by sw (inl u) v d = ap (λ (o : Option (List ℕ)). sameContent o (content sw bbody b)) u
+    by sw (inr u) (inl v) d = (λ i. sameContent (u i) (v i))
+    by sw (inr u) (inr v) d = (λ i. sameContent (u i) (v i)) ∙ d
+
+-- ---- answers that say nothing
 
 pub not-telling : (due x y : ℕ) → Telling due x y false
 not-telling due x y = record { is = λ e. absurd (subst T (sym e) tt) }

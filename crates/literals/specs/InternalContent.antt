@@ -82,6 +82,10 @@ pub record SteadyIf (body : Body) (r : Bool) : Type 0 where
 pub record FrontApart (a b : List ℕ) (r : Bool) : Type 0 where
   pub is : r ≡ true → (sw : Switches) (st su : Decoder) → Steady st → Steady su → sameContent (decoded sw st a) (decoded sw su b) ≡ false
 
+-- a body's content is its bytes, or it has none, if the answer is true
+pub record VerbatimIf (body : Body) (r : Bool) : Type 0 where
+  pub is : r ≡ true → (sw : Switches) (s : List ℕ) → (content sw body s ≡ none) ⊎ (content sw body s ≡ some s)
+
 -- a body is quoted, if the answer is true
 pub record QuotedIf (body : Body) (r : Bool) : Type 0 where
   pub is : r ≡ true → body ≡ Quoted

@@ -4,6 +4,7 @@ ghost use Rattle.literals.specs.Content.{content, sameContent};
 ghost use Rattle.literals.specs.InternalContent.{
   Sound,
   SteadyIf,
+  VerbatimIf,
   QuotedIf,
   Telling,
   letterDue,
@@ -19,6 +20,7 @@ use crate::decoder::Decoder;
 use crate::decoder::decode_step;
 use crate::decoder::may_end;
 use crate::decoder::start_of;
+use text::bytes::same_bytes;
 use text::switches::Switches;
 use text::utf8::Few;
 
@@ -86,6 +88,18 @@ fn is_steady(body: Body) -> bool
 {
     match body {
         Body::Quoted => true,
+        Body::Raw => true,
+        Body::Base64 => false,
+        Body::Word => true,
+    }
+}
+
+// Whether all bytes of a body stand for themselves: so in raw bodies and words.
+fn is_verbatim(body: Body) -> bool
+    ensures { λ r. ⌜ VerbatimIf body r ⌝ }
+{
+    match body {
+        Body::Quoted => false,
         Body::Raw => true,
         Body::Base64 => false,
         Body::Word => true,
@@ -208,11 +222,16 @@ fn plainly_apart(abody: Body, a: &[u8], bbody: Body, b: &[u8]) -> bool
 }
 
 // Whether two bodies are seen to have different contents by their bytes as written. Asked for every key of an object at each new
-// one: decoding both sides costs much more, and is left for those that go on alike or spell an escape in two ways. Most pairs
-// differ before any backslash, and that test comes first as it is the quickest. Public for the crate above only.
+// one: decoding both sides costs much more, and is left for those that go on alike or spell an escape in two ways. Bodies without
+// escapes are compared whole; most others differ before any backslash, so that test comes next. Public for the crate above only.
 pub fn written_apart(abody: Body, a: &[u8], bbody: Body, b: &[u8]) -> bool
     ensures { λ r. ⌜ Apart abody (now (a .entry)) bbody (now (b .entry)) r ⌝ }
 {
+    if is_verbatim(abody) {
+        if is_verbatim(bbody) {
+            return !same_bytes(a, b);
+        }
+    }
     if plainly_apart(abody, a, bbody, b) {
         return true;
     }
