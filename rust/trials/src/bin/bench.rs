@@ -1,5 +1,5 @@
-//! `bench [--clear] [--rounds N]`: nanoseconds a byte of both readers, on the
-//! same texts in one run, and their ratio.
+//! `bench [--clear] [--rounds N] [--slow]`: nanoseconds a byte of both readers,
+//! on the same texts in one run, and their ratio.
 
 use std::fmt::Write as _;
 use std::hint::black_box;
@@ -72,13 +72,27 @@ fn json() -> Vec<u8> {
     text.into_bytes()
 }
 
-/// One object of 4,000 keys, each between two of these quotes, or none.
-fn keys(quote: &str) -> Vec<u8> {
-    let pairs: Vec<_> = (0..4000).map(|n| format!("{quote}key{n:04}{quote}:{}", n % 10)).collect();
+/// One object of 4,000 keys: this opening, a number, and this close.
+fn keys(open: &str, close: &str) -> Vec<u8> {
+    let pairs: Vec<_> = (0..4000).map(|n| format!("{open}{n:04}{close}:{}", n % 10)).collect();
     format!("{{{}}}", pairs.join(",")).into_bytes()
 }
 
-fn benches() -> Vec<Bench> {
+/// One object of 2,350 keys that all begin with twelve times the letter a. The
+/// first four are spelled in two ways, so that few pairs of keys are spelled
+/// alike.
+fn spellings() -> Vec<u8> {
+    let letter = |n: usize, bit: usize| if n >> bit & 1 == 0 { "a" } else { "\\x61" };
+    let pairs: Vec<_> = (0..2350)
+        .map(|n| {
+            let front: String = (0..4).map(|bit| letter(n, bit)).collect();
+            format!("\"{front}aaaaaaaa{n:04}\":0")
+        })
+        .collect();
+    format!("{{{}}}", pairs.join(",")).into_bytes()
+}
+
+fn benches(slow: bool) -> Vec<Bench> {
     let mut benches = vec![
         Bench { name: "season file".into(), text: season(65_536), words: FULL },
         Bench { name: "JSON-like records".into(), text: json(), words: FULL },
@@ -87,8 +101,9 @@ fn benches() -> Vec<Bench> {
             text: format!("[\"{}\"]", "x".repeat(65_532)).into_bytes(),
             words: FULL,
         },
-        Bench { name: "4,000 keys, one object".into(), text: keys(""), words: FULL },
-        Bench { name: "4,000 keys in quotes".into(), text: keys("\""), words: FULL },
+        Bench { name: "4,000 keys, one object".into(), text: keys("key", ""), words: FULL },
+        Bench { name: "4,000 keys in quotes".into(), text: keys("\"key", "\""), words: FULL },
+        Bench { name: "4,000 keys, escapes".into(), text: keys("\"\\x6b", "\""), words: FULL },
         Bench {
             // With the array itself that makes 4,096 nodes.
             name: "4,095 nulls, one array".into(),
@@ -96,6 +111,10 @@ fn benches() -> Vec<Bench> {
             words: FULL,
         },
     ];
+    if slow {
+        let name = "2,350 keys, two ways".into();
+        benches.push(Bench { name, text: spellings(), words: FULL });
+    }
     for kib in [1, 2, 4, 8, 16, 32, 64] {
         let text = season(kib * 1024);
         // Growth is shown with a table that grows along: one row for every 16
@@ -138,17 +157,19 @@ fn time(bench: &Bench, rounds: usize, clear: bool) -> Vec<(Duration, Duration)> 
 
 fn main() {
     let mut clear = false;
+    let mut slow = false;
     let mut rounds = 100;
     let mut arguments = std::env::args().skip(1);
     while let Some(argument) = arguments.next() {
         match argument.as_str() {
             "--clear" => clear = true,
+            "--slow" => slow = true,
             "--rounds" => {
                 let given = arguments.next().and_then(|given| given.parse().ok());
                 rounds = given.filter(|&given| given > 0).unwrap_or(rounds);
             }
             _ => {
-                eprintln!("usage: bench [--clear] [--rounds N]");
+                eprintln!("usage: bench [--clear] [--rounds N] [--slow]");
                 std::process::exit(2);
             }
         }
@@ -165,7 +186,7 @@ fn main() {
         print!("{name:>18}");
     }
     println!("{}", if READERS.len() == 2 { "     ratio" } else { "" });
-    for bench in benches() {
+    for bench in benches(slow) {
         let mut table = vec![0; bench.words];
         let nodes = trials::check::second_read(&bench.text, &mut table).unwrap_or(0);
         print!("{:<24}{:>7}{nodes:>7}{:>8}", bench.name, bench.text.len(), bench.words);
