@@ -6,30 +6,23 @@ use Prim.Native.Nat.{ℕ, suc, _+_, _-_, _≤_, _<_}
 use native.Mathlib.Decide.{decLt}
 use native.Mathlib.Omega.{arith}
 use mathlib.Core.Bool.{Bool, true, false, _&&_, _||_, false≢true}
-use mathlib.Core.Option.{Option, none, some}
 use mathlib.Core.List.{List, [], _∷_}
 use lib.Dec.{T, leb, eqb, eqb→eq, leb→le}
-use lib.ListN.{take, drop, getD}
-use lib.Seq.{getD-drop, drop-drop}
+use lib.ListN.{drop, getD}
+use lib.Seq.{getD-drop}
 use Rattle.text.specs.declared.switches.Switches.{Switches}
-use Rattle.text.specs.Bytes.{feed, front, begins, Class, classOf, isCapital, isSmall, isDigit, isJoiner, isLetterOrDigit, isWordByte, isNumberByte, within, is, ascii}
+use Rattle.text.specs.Bytes.{feed, front, Class, isCapital, isSmall, isDigit, isJoiner, isLetterOrDigit, isWordByte, isNumberByte, within, is}
 use Rattle.text.proofs.Choice.{cond-both, both-right, or-case}
 use Rattle.text.proofs.ClassLaws.{class-high}
 use Rattle.literals.specs.declared.decoder.Body.{Body}
-use Rattle.literals.specs.declared.decoder.Body.the-variants as Y
-use Rattle.literals.specs.Content.{contentOf}
-use Rattle.literals.specs.declared.number.Meaning.{Meaning}
-use Rattle.literals.specs.declared.number.Meaning.the-variants as N
 use Rattle.literals.specs.Number.{number}
-use Rattle.literals.specs.Word.{hasShape}
 use Rattle.lexer.specs.declared.closing.Closing.{Closing}
 use Rattle.lexer.specs.declared.closing.Closing.the-variants as C
-use Rattle.lexer.specs.declared.closing.Block.{Block}
-use Rattle.lexer.specs.declared.closing.Block.the-variants as B
-use Rattle.lexer.specs.Closing.{afterOther, closingStep, closing, block}
+use Rattle.lexer.specs.Closing.{afterOther, closingStep, closing}
 use Rattle.lexer.specs.Internal.{isClosed}
-use Rattle.lexer.specs.Token.{Item, gap, token, fault, blockItem, comment, contentItem, closedItem, hasEscapes, stringItem, hashCount, rawItem, opensRaw, wordItem, meantItem, numberItem, smallItem, itemOf, item}
+use Rattle.lexer.specs.Token.{Item, gap, token, fault, hasEscapes, itemOf, item}
 use Rattle.lexer.proofs.ClosingLaws.{closingBytes, closed-stays}
+use Rattle.lexer.proofs.ItemCases.{item-case}
 use Rattle.lexer.proofs.LocalLaws.{close-goes}
 
 -- ---- bytes of words and numbers
@@ -142,93 +135,33 @@ LowLast l (token form more) = getD l more 0 ≤ 127
 LowLast l (gap more) = Unit {0}
 LowLast l (fault number) = Unit {0}
 
-content-low : (l : List ℕ) (isText : Bool) (more : ℕ) (c : Option (List ℕ)) → getD l more 0 ≤ 127 → LowLast l (contentItem isText more c)
-unfolding contentItem LowLast
-content-low l isText more (some c) h = h
-content-low l isText more none h = tt
+-- a string that closes ends low
+string-low : (body : Body) (b : ℕ) (s : List ℕ) (head k m : ℕ) → closing (hasEscapes body) k (drop head s) ≡ C.Closed m → getD (b ∷ s) (head + m) 0 ≤ 127
+unfolding LowAt
+string-low body b s head k m q =
+    let h = subst (LowAt 0 (drop head s)) q (closing-low (hasEscapes body) k (drop head s)) in
+    let p = h .0 in
+    let z : suc head + (m - 1) ≡ head + m = omega arith in
+    let e : getD (drop head s) (m - 1) 0 ≡ getD (b ∷ s) (head + m) 0 = getD-drop (suc head) (b ∷ s) (m - 1) 0 ∙ ap (λ (i : ℕ). getD (b ∷ s) i 0) z in
+    subst (λ (x : ℕ). x ≤ 127) e (h .1)
 
-module _ (sw : Switches) (isText : Bool) (body : Body) where
-  closed-low : (l : List ℕ) (head k : ℕ) (c : Closing) → LowAt 0 (drop (suc head) l) c → LowLast l (closedItem sw isText body head k (drop (suc head) l) c)
-  unfolding closedItem LowLast LowAt
-  closed-low l head k (C.Closed n) h =
-      let p = h .0 in
-      let z : suc head + (n - 1) ≡ head + n = omega arith in
-      let e : getD (drop (suc head) l) (n - 1) 0 ≡ getD l (head + n) 0 = getD-drop (suc head) l (n - 1) 0 ∙ ap (λ (i : ℕ). getD l i 0) z in
-      content-low l isText (head + n) (contentOf sw isText body (take (n - suc k) (drop (suc head) l))) (subst (λ (x : ℕ). x ≤ 127) e (h .1))
-  closed-low l head k (C.Inside n) h = tt
-  closed-low l head k (C.Escaped n) h = tt
-  closed-low l head k (C.Hashes j n) h = tt
-
-  -- a string whose opening is `head` bytes after the first
-  string-low : (l : List ℕ) (head k : ℕ) (s : List ℕ) → drop (suc head) l ≡ s → LowLast l (stringItem sw isText body head k s)
-  unfolding stringItem
-  string-low l head k s e =
-      subst (λ (y : List ℕ). LowLast l (closedItem sw isText body head k y (closing (hasEscapes body) k y))) e
-      (closed-low l head k (closing (hasEscapes body) k (drop (suc head) l)) (closing-low (hasEscapes body) k (drop (suc head) l)))
-
-raw-low : (sw : Switches) (isText : Bool) (l : List ℕ) (head : ℕ) → LowLast l (rawItem sw isText head (drop (suc head) l))
-unfolding rawItem LowLast
-raw-low sw isText l head =
-    let s = drop (suc head) l in
-    let j = hashCount s in
-    let z : suc (head + j + 1) ≡ suc head + (j + 1) = omega arith in
-    cond-both (LowLast l) (begins (ascii "\"") (drop j s))
-    (λ _. string-low sw isText Y.Raw l (head + j + 1) j (drop (j + 1) s) (ap (λ (n : ℕ). drop n l) z ∙ sym (drop-drop (j + 1) (suc head) l))) (λ _. tt)
-
-module _ (b : ℕ) (s : List ℕ) (low : b ≤ 127) where
-  word-low : LowLast (b ∷ s) (wordItem b s)
-  unfolding wordItem LowLast
-  word-low = cond-both (LowLast (b ∷ s)) (hasShape (b ∷ take (front isWordByte s) s)) (λ _. run-low isWordByte word-byte b s low) (λ _. tt)
-
-  meant-low : (m : Meaning) → LowLast (b ∷ s) (meantItem (front isNumberByte s) m)
-  unfolding meantItem LowLast
-  meant-low (N.Integer z) = run-low isNumberByte number-byte b s low
-  meant-low (N.Decimal minus m p) = run-low isNumberByte number-byte b s low
-  meant-low N.Malformed = tt
-  meant-low N.TooWide = tt
-
-  number-low : LowLast (b ∷ s) (numberItem b s)
-  unfolding numberItem
-  number-low = meant-low (number (b ∷ take (front isNumberByte s) s))
-
-  block-low : (c : Block) → LowLast (b ∷ s) (blockItem c)
-  unfolding blockItem LowLast
-  block-low (B.Inside n) = tt
-  block-low (B.Starred n) = tt
-  block-low (B.Closed n) = tt
-
-  comment-low : (l : List ℕ) → LowLast (b ∷ s) (comment l)
-  unfolding comment LowLast
-  comment-low [] = tt
-  comment-low (c ∷ l) = cond-both (LowLast (b ∷ s)) (is "/" c) (λ _. tt) (λ _. cond-both (LowLast (b ∷ s)) (is "*" c) (λ _. block-low (block l)) (λ _. tt))
-
-  small-low : (sw : Switches) → LowLast (b ∷ s) (smallItem sw b s)
-  unfolding smallItem
-  small-low sw =
-      cond-both (LowLast (b ∷ s)) (is "b" b && begins (ascii "\"") s) (λ _. string-low sw false Y.Quoted (b ∷ s) 1 0 (drop 1 s) refl)
-      (λ _. cond-both (LowLast (b ∷ s)) (is "b" b && sw .base64 && begins (ascii "64\"") s) (λ _. string-low sw false Y.Base64 (b ∷ s) 3 0 (drop 3 s) refl)
-      (λ _. cond-both (LowLast (b ∷ s)) (is "r" b && opensRaw s) (λ _. raw-low sw true (b ∷ s) 0)
-      (λ _. cond-both (LowLast (b ∷ s)) (is "b" b && begins (ascii "r") s && opensRaw (drop 1 s)) (λ _. raw-low sw false (b ∷ s) 1)
-      (λ _. word-low))))
-
-  class-low : (sw : Switches) (c : Class) → LowLast (b ∷ s) (itemOf sw c b s)
-  unfolding itemOf LowLast
-  class-low sw Class.space = tt
-  class-low sw Class.digit = number-low
-  class-low sw Class.capital = word-low
-  class-low sw Class.small = small-low sw
-  class-low sw Class.joiner = cond-both (LowLast (b ∷ s)) (is "_" b) (λ _. word-low) (λ _. number-low)
-  class-low sw Class.quote = string-low sw true Y.Quoted (b ∷ s) 0 0 s refl
-  class-low sw Class.tick = tt
-  class-low sw Class.mark = low
-  class-low sw Class.slash = comment-low s
-  class-low sw Class.plus = number-low
-  class-low sw Class.other = tt
+low-case : (sw : Switches) (b : ℕ) (s : List ℕ) → b ≤ 127 → LowLast (b ∷ s) (item sw b s)
+unfolding LowLast
+low-case sw b s low =
+    item-case sw b s (LowLast (b ∷ s)) (record {
+      of-gap = λ more h y. tt;
+      of-mark = λ y. low;
+      of-word = run-low isWordByte word-byte b s low;
+      of-string = λ isText body head k m c q h e. string-low body b s head k m q;
+      of-integer = λ z. run-low isNumberByte number-byte b s low;
+      of-decimal = λ minus m p e. run-low isNumberByte number-byte b s low;
+      of-fault = λ n h. tt;
+    })
 
 pub item-low : (sw : Switches) (b : ℕ) (s : List ℕ) → LowLast (b ∷ s) (item sw b s)
 unfolding item itemOf LowLast
 item-low sw b s =
     elim (decLt 127 b) [
       | yes high ↦ subst (λ (c : Class). LowLast (b ∷ s) (itemOf sw c b s)) (sym (class-high b high)) tt
-      | no below ↦ class-low b s (omega arith) sw (classOf b)
+      | no below ↦ low-case sw b s (omega arith)
     ]

@@ -30,7 +30,7 @@ use Rattle.lexer.specs.Closing.{closing, block, notNewline}
 use Rattle.lexer.specs.Token.{fault, blockItem, comment, contentItem, closedItem, hasEscapes, stringItem, hashCount, rawItem, opensRaw, wordItem, meantItem, numberItem, smallItem, itemOf, item, itemAt}
 use Rattle.lexer.specs.Answer.{kindOf, found, foundAt}
 use Rattle.lexer.specs.Internal.{stringFound}
-use Rattle.lexer.proofs.TokenLaws.{front-le, begins-le}
+use Rattle.lexer.proofs.ItemCases.{front-le, begins-le}
 
 -- ---- the bytes of a list by their places
 

@@ -2,44 +2,17 @@
 -- With it the bounds that it needs: an item ends within the text.
 -- Assumes nothing.
 use mathlib.Core.Path.{_≡_, refl, sym, ap, _∙_, subst}
-use Prim.Native.Nat.{ℕ, zero, suc, _+_, _-_, _≤_, _<_, zero-le, suc-le-suc}
+use Prim.Native.Nat.{ℕ, zero, suc, _+_, _-_, _≤_, _<_, zero-le}
 use native.Mathlib.Nat.{add-zero, suc-add, add-suc, le-refl, le-trans}
 use native.Mathlib.Omega.{arith}
-use mathlib.Core.Bool.{Bool, true, false, _&&_}
-use mathlib.Core.Option.{Option, none, some}
 use mathlib.Core.List.{List, [], _∷_}
-use lib.Dec.{T, eqb}
-use lib.ListN.{length, take, drop, getD, length-drop}
+use lib.ListN.{length, drop, getD, length-drop}
 use lib.Seq.{drop-cons, drop-drop, drop-length}
 use Rattle.text.specs.declared.switches.Switches.{Switches}
-use Rattle.text.specs.Bytes.{front, begins, Class, classOf, isWordByte, isNumberByte, is, ascii}
-use Rattle.text.proofs.Choice.{cond-both, both-left, both-right}
-use Rattle.literals.specs.declared.decoder.Body.{Body}
-use Rattle.literals.specs.declared.decoder.Body.the-variants as Y
-use Rattle.literals.specs.Content.{contentOf}
-use Rattle.literals.specs.declared.number.Meaning.{Meaning}
-use Rattle.literals.specs.declared.number.Meaning.the-variants as N
+use Rattle.text.specs.Bytes.{isWordByte, isNumberByte}
 use Rattle.literals.specs.Number.{number}
-use Rattle.literals.specs.Word.{hasShape}
-use Rattle.lexer.specs.declared.closing.Closing.{Closing}
-use Rattle.lexer.specs.declared.closing.Closing.the-variants as C
-use Rattle.lexer.specs.declared.closing.Block.{Block}
-use Rattle.lexer.specs.declared.closing.Block.the-variants as B
-use Rattle.lexer.specs.Closing.{closing, block, notNewline}
-use Rattle.lexer.specs.Internal.{blockRead}
-use Rattle.lexer.proofs.ClosingLaws.{closingBytes, closing-le, block-le}
-use Rattle.lexer.specs.Token.{Form, Item, gap, token, fault, blockItem, comment, contentItem, closedItem, hasEscapes, stringItem, hashCount, rawItem, opensRaw, wordItem, meantItem, numberItem, smallItem, itemOf, item, Tokens, next, end, afterItem, cut, tokens, itemAt, tokensFrom}
-
-pub front-le : (p : ℕ → Bool) (s : List ℕ) → front p s ≤ length s
-unfolding front
-front-le p [] = zero-le
-front-le p (b ∷ s) = cond-both (λ (n : ℕ). n ≤ suc (length s)) (p b) (λ _. suc-le-suc (front-le p s)) (λ _. zero-le)
-
-pub begins-le : (xs s : List ℕ) → T (begins xs s) → length xs ≤ length s
-unfolding begins
-begins-le [] s t = zero-le
-begins-le (x ∷ xs) [] t = absurd t
-begins-le (x ∷ xs) (b ∷ s) t = suc-le-suc (begins-le xs s (both-right (eqb b x) (begins xs s) t))
+use Rattle.lexer.proofs.ItemCases.{front-le, item-case}
+use Rattle.lexer.specs.Token.{Form, Item, gap, token, fault, item, Tokens, next, end, afterItem, cut, tokens, itemAt, tokensFrom}
 
 -- ---- an item ends within the bytes that follow its first
 
@@ -48,111 +21,18 @@ EndsBy n (gap more) = more ≤ n
 EndsBy n (token form more) = more ≤ n
 EndsBy n (fault number) = Unit {0}
 
-content-ends : (n : ℕ) (isText : Bool) (more : ℕ) (c : Option (List ℕ)) → more ≤ n → EndsBy n (contentItem isText more c)
-unfolding EndsBy contentItem
-content-ends n isText more (some c) h = h
-content-ends n isText more none h = tt
-
-closed-ends : (sw : Switches) (n : ℕ) (isText : Bool) (body : Body) (head k : ℕ) (s : List ℕ) (c : Closing)
-    → head + closingBytes c ≤ n → EndsBy n (closedItem sw isText body head k s c)
-unfolding EndsBy closedItem closingBytes
-closed-ends sw n isText body head k s (C.Closed m) h = content-ends n isText (head + m) (contentOf sw isText body (take (m - suc k) s)) h
-closed-ends sw n isText body head k s (C.Inside m) h = tt
-closed-ends sw n isText body head k s (C.Escaped m) h = tt
-closed-ends sw n isText body head k s (C.Hashes j m) h = tt
-
--- a string whose opening is `head` bytes after the first, of which s is what follows
-opened-ends : (sw : Switches) (n : ℕ) (isText : Bool) (body : Body) (head k : ℕ) (s : List ℕ)
-    → head + length s ≤ n → EndsBy n (stringItem sw isText body head k s)
-unfolding stringItem
-opened-ends sw n isText body head k s h =
-    let e = closing-le (hasEscapes body) k s in
-    closed-ends sw n isText body head k s (closing (hasEscapes body) k s) (omega arith)
-
-raw-ends : (sw : Switches) (n : ℕ) (isText : Bool) (head : ℕ) (s : List ℕ) → head + length s ≤ n → EndsBy n (rawItem sw isText head s)
-unfolding rawItem EndsBy
-raw-ends sw n isText head s h =
-    cond-both (EndsBy n) (begins (ascii "\"") (drop (hashCount s) s))
-    (λ t.
-    let e = begins-le (ascii "\"") (drop (hashCount s) s) t in
-    let d = length-drop (hashCount s) s in
-    let f = length-drop (hashCount s + 1) s in
-    opened-ends sw n isText Y.Raw (head + hashCount s + 1) (hashCount s) (drop (hashCount s + 1) s) (omega arith))
-    (λ _. tt)
-
-word-ends : (b : ℕ) (s : List ℕ) → EndsBy (length s) (wordItem b s)
-unfolding wordItem EndsBy
-word-ends b s =
-    cond-both (EndsBy (length s)) (hasShape (b ∷ take (front isWordByte s) s)) (λ _. front-le isWordByte s) (λ _. tt)
-
-meant-ends : (n more : ℕ) (m : Meaning) → more ≤ n → EndsBy n (meantItem more m)
-unfolding meantItem EndsBy
-meant-ends n more (N.Integer z) h = h
-meant-ends n more (N.Decimal minus m p) h = h
-meant-ends n more N.Malformed h = tt
-meant-ends n more N.TooWide h = tt
-
-number-ends : (b : ℕ) (s : List ℕ) → EndsBy (length s) (numberItem b s)
-unfolding numberItem
-number-ends b s = meant-ends (length s) (front isNumberByte s) (number (b ∷ take (front isNumberByte s) s)) (front-le isNumberByte s)
-
-block-ends : (n : ℕ) (c : Block) → suc (blockRead c) ≤ n → EndsBy n (blockItem c)
-unfolding blockItem EndsBy blockRead
-block-ends n (B.Inside m) h = tt
-block-ends n (B.Starred m) h = tt
-block-ends n (B.Closed m) h = h
-
-comment-ends : (s : List ℕ) → EndsBy (length s) (comment s)
-unfolding comment EndsBy
-comment-ends [] = tt
-comment-ends (b ∷ s) =
-    cond-both (EndsBy (suc (length s))) (is "/" b) (λ _. suc-le-suc (front-le notNewline s))
-    (λ _. cond-both (EndsBy (suc (length s))) (is "*" b)
-    (λ _.
-    let h = block-le s in
-    block-ends (suc (length s)) (block s) (omega arith))
-    (λ _. tt))
-
-module _ (sw : Switches) where
-  small-ends : (b : ℕ) (s : List ℕ) → EndsBy (length s) (smallItem sw b s)
-  unfolding smallItem
-  small-ends b s =
-      cond-both (EndsBy (length s)) (is "b" b && begins (ascii "\"") s)
-      (λ t.
-      let e = begins-le (ascii "\"") s (both-right (is "b" b) _ t) in
-      let d = length-drop 1 s in
-      opened-ends sw (length s) false Y.Quoted 1 0 (drop 1 s) (omega arith))
-      (λ _. cond-both (EndsBy (length s)) (is "b" b && sw .base64 && begins (ascii "64\"") s)
-      (λ t.
-      let e = begins-le (ascii "64\"") s (both-right (is "b" b && sw .base64) _ t) in
-      let d = length-drop 3 s in
-      opened-ends sw (length s) false Y.Base64 3 0 (drop 3 s) (omega arith))
-      (λ _. cond-both (EndsBy (length s)) (is "r" b && opensRaw s)
-      (λ _. raw-ends sw (length s) true 0 s (omega arith))
-      (λ _. cond-both (EndsBy (length s)) (is "b" b && begins (ascii "r") s && opensRaw (drop 1 s))
-      (λ t.
-      let e = begins-le (ascii "r") s (both-right (is "b" b) _ (both-left (is "b" b && begins (ascii "r") s) _ t)) in
-      let d = length-drop 1 s in
-      raw-ends sw (length s) false 1 (drop 1 s) (omega arith))
-      (λ _. word-ends b s))))
-
-  class-ends : (c : Class) (b : ℕ) (s : List ℕ) → EndsBy (length s) (itemOf sw c b s)
-  unfolding itemOf EndsBy
-  class-ends Class.space b s = zero-le
-  class-ends Class.digit b s = number-ends b s
-  class-ends Class.capital b s = word-ends b s
-  class-ends Class.small b s = small-ends b s
-  class-ends Class.joiner b s = cond-both (EndsBy (length s)) (is "_" b) (λ _. word-ends b s) (λ _. number-ends b s)
-  class-ends Class.quote b s = opened-ends sw (length s) true Y.Quoted 0 0 s (omega arith)
-  class-ends Class.tick b s = tt
-  class-ends Class.mark b s = zero-le
-  class-ends Class.slash b s = comment-ends s
-  class-ends Class.plus b s = number-ends b s
-  class-ends Class.other b s = tt
-
-  pub item-ends : (b : ℕ) (s : List ℕ) → EndsBy (length s) (item sw b s)
-  unfolding item
-  item-ends b s = class-ends (classOf b) b s
+pub item-ends : (sw : Switches) (b : ℕ) (s : List ℕ) → EndsBy (length s) (item sw b s)
+unfolding EndsBy
+item-ends sw b s =
+    item-case sw b s (EndsBy (length s)) (record {
+      of-gap = λ more h y. h;
+      of-mark = λ y. zero-le;
+      of-word = front-le isWordByte s;
+      of-string = λ isText body head k m c q h e. h;
+      of-integer = λ z. front-le isNumberByte s;
+      of-decimal = λ minus m p e. front-le isNumberByte s;
+      of-fault = λ n h. tt;
+    })
 
 -- ---- the equation
 

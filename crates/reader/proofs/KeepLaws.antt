@@ -2,7 +2,6 @@
 -- Assumes nothing.
 use mathlib.Core.Path.{_≡_, refl, subst}
 use Prim.Native.Nat.{ℕ, zero, suc, _+_, _-_, _≤_, zero-le, suc-le-suc}
-use native.Mathlib.Nat.{le-trans}
 use native.Mathlib.Omega.{arith}
 use mathlib.Core.Bool.{Bool, true, false, cond, _&&_}
 use mathlib.Core.Option.{Option, none, some}
@@ -12,11 +11,10 @@ use lib.IntN.{ℤ, pos, negsuc, negℤ, _+ℤ_}
 use lib.Signed.{leZ}
 use lib.ListN.{length, take, drop, getD, length-drop, length-append}
 use Rattle.text.specs.declared.switches.Switches.{Switches}
-use Rattle.text.specs.Bytes.{front, begins, Class, classOf, isWordByte, isNumberByte, is, ascii, feed}
+use Rattle.text.specs.Bytes.{front, isNumberByte, feed}
 use Rattle.text.specs.Utf8.{isUtf8, listed}
 use Rattle.text.proofs.Choice.{cond-both, is-true, both-left, both-right}
 use Rattle.literals.specs.declared.decoder.Body.{Body}
-use Rattle.literals.specs.declared.decoder.Body.the-variants as Y
 use Rattle.literals.specs.declared.decoder.Decoder.{Decoder}
 use Rattle.literals.specs.Content.{mayEnd, decodeStep, prepend, decoded, startOf, content, onlyUtf8, contentOf}
 use Rattle.literals.specs.InternalContent.{Sound}
@@ -27,14 +25,9 @@ use Rattle.literals.specs.declared.number.Number.the-variants.{Start, Bad, Sign
 use Rattle.literals.specs.declared.number.Meaning.{Meaning}
 use Rattle.literals.specs.declared.number.Meaning.the-variants as N
 use Rattle.literals.specs.Number.{numberStep, most, signedBy, asInteger, asDecimal, meaning, number}
-use Rattle.literals.specs.Word.{hasShape}
-use Rattle.lexer.specs.declared.closing.Closing.{Closing}
-use Rattle.lexer.specs.declared.closing.Closing.the-variants as C
-use Rattle.lexer.specs.declared.closing.Block.{Block}
-use Rattle.lexer.specs.declared.closing.Block.the-variants as B
-use Rattle.lexer.specs.Closing.{closing, block}
 use Rattle.lexer.specs.Token as L
-use Rattle.lexer.specs.Token.{Form, Item, blockItem, comment, contentItem, closedItem, hasEscapes, stringItem, hashCount, rawItem, opensRaw, wordItem, meantItem, numberItem, smallItem, itemOf, item, itemAt}
+use Rattle.lexer.specs.Token.{Form, Item, item, itemAt}
+use Rattle.lexer.proofs.ItemCases.{item-case}
 use Rattle.reader.specs.Internal.Tokens.{DecimalFits}
 
 -- ---- a content is no longer than its body
@@ -139,99 +132,31 @@ take-le zero s = zero-le
 take-le (suc n) [] = zero-le
 take-le (suc n) (b ∷ s) = suc-le-suc (take-le n s)
 
-module _ (b : ℕ) (s : List ℕ) where
-  content-keeps : (isText : Bool) (more n : ℕ) (c : Option (List ℕ)) → n ≤ length s → Short n c → ItemKeeps b s (contentItem isText more c)
-  unfolding ItemKeeps Keeps contentItem Short
-  content-keeps isText more n none h k = tt
-  content-keeps true more n (some c) h k = le-trans k h
-  content-keeps false more n (some c) h k = le-trans k h
+string-keeps : (b : ℕ) (s : List ℕ) (isText : Bool) (c : List ℕ) (more : ℕ) → length c ≤ length s → ItemKeeps b s (L.token (L.stringForm isText c) more)
+unfolding ItemKeeps Keeps
+string-keeps b s true c more h = h
+string-keeps b s false c more h = h
 
-  closed-keeps : (sw : Switches) (isText : Bool) (body : Body) (head k : ℕ) (l : List ℕ) (c : Closing) → length l ≤ length s
-      → ItemKeeps b s (closedItem sw isText body head k l c)
-  unfolding ItemKeeps closedItem
-  closed-keeps sw isText body head k l (C.Closed m) h =
-      content-keeps isText (head + m) (length (take (m - suc k) l)) (contentOf sw isText body (take (m - suc k) l)) (le-trans (take-le (m - suc k) l) h)
-      (content-short sw isText body (take (m - suc k) l))
-  closed-keeps sw isText body head k l (C.Inside m) h = tt
-  closed-keeps sw isText body head k l (C.Escaped m) h = tt
-  closed-keeps sw isText body head k l (C.Hashes j m) h = tt
-
-  string-keeps : (sw : Switches) (isText : Bool) (body : Body) (head k : ℕ) (l : List ℕ) → length l ≤ length s
-      → ItemKeeps b s (stringItem sw isText body head k l)
-  unfolding stringItem
-  string-keeps sw isText body head k l h = closed-keeps sw isText body head k l (closing (hasEscapes body) k l) h
-
-  raw-keeps : (sw : Switches) (isText : Bool) (head : ℕ) (l : List ℕ) → length l ≤ length s → ItemKeeps b s (rawItem sw isText head l)
-  unfolding rawItem ItemKeeps
-  raw-keeps sw isText head l h =
-      cond-both (ItemKeeps b s) (begins (ascii "\"") (drop (hashCount l) l))
-      (λ _.
-      let d = length-drop (hashCount l + 1) l in
-      string-keeps sw isText Y.Raw (head + hashCount l + 1) (hashCount l) (drop (hashCount l + 1) l) (omega arith))
-      (λ _. tt)
-
-  word-keeps : ItemKeeps b s (wordItem b s)
-  unfolding wordItem ItemKeeps Keeps
-  word-keeps = cond-both (ItemKeeps b s) (hasShape (b ∷ take (front isWordByte s) s)) (λ _. refl) (λ _. tt)
-
-  meant-keeps : (more : ℕ) (m : Meaning) → Ranged m → ItemKeeps b s (meantItem more m)
-  unfolding meantItem ItemKeeps Keeps Ranged
-  meant-keeps more (N.Integer z) h = tt
-  meant-keeps more (N.Decimal minus m p) h = h
-  meant-keeps more N.Malformed h = tt
-  meant-keeps more N.TooWide h = tt
-
-  number-keeps : ItemKeeps b s (numberItem b s)
-  unfolding numberItem number
-  number-keeps =
-      meant-keeps (front isNumberByte s) (meaning (feed numberStep Start (b ∷ take (front isNumberByte s) s)))
-      (meaning-ranged (feed numberStep Start (b ∷ take (front isNumberByte s) s)))
-
-  block-keeps : (c : Block) → ItemKeeps b s (blockItem c)
-  unfolding blockItem ItemKeeps
-  block-keeps (B.Inside m) = tt
-  block-keeps (B.Starred m) = tt
-  block-keeps (B.Closed m) = tt
-
-  comment-keeps : (l : List ℕ) → ItemKeeps b s (comment l)
-  unfolding comment ItemKeeps
-  comment-keeps [] = tt
-  comment-keeps (x ∷ l) =
-      cond-both (ItemKeeps b s) (is "/" x) (λ _. tt)
-      (λ _. cond-both (ItemKeeps b s) (is "*" x) (λ _. block-keeps (block l)) (λ _. tt))
-
-  module _ (sw : Switches) where
-    small-keeps : ItemKeeps b s (smallItem sw b s)
-    unfolding smallItem
-    small-keeps =
-        let d1 = length-drop 1 s in
-        let d3 = length-drop 3 s in
-        cond-both (ItemKeeps b s) (is "b" b && begins (ascii "\"") s) (λ _. string-keeps sw false Y.Quoted 1 0 (drop 1 s) (omega arith))
-        (λ _. cond-both (ItemKeeps b s) (is "b" b && sw .base64 && begins (ascii "64\"") s) (λ _. string-keeps sw false Y.Base64 3 0 (drop 3 s) (omega arith))
-        (λ _. cond-both (ItemKeeps b s) (is "r" b && opensRaw s) (λ _. raw-keeps sw true 0 s (omega arith))
-        (λ _. cond-both (ItemKeeps b s) (is "b" b && begins (ascii "r") s && opensRaw (drop 1 s)) (λ _. raw-keeps sw false 1 (drop 1 s) (omega arith))
-        (λ _. word-keeps))))
-
-    class-keeps : (c : Class) → ItemKeeps b s (itemOf sw c b s)
-    unfolding itemOf ItemKeeps Keeps
-    class-keeps Class.space = tt
-    class-keeps Class.digit = number-keeps
-    class-keeps Class.capital = word-keeps
-    class-keeps Class.small = small-keeps
-    class-keeps Class.joiner = cond-both (ItemKeeps b s) (is "_" b) (λ _. word-keeps) (λ _. number-keeps)
-    class-keeps Class.quote = string-keeps sw true Y.Quoted 0 0 s (omega arith)
-    class-keeps Class.tick = tt
-    class-keeps Class.mark = tt
-    class-keeps Class.slash = comment-keeps s
-    class-keeps Class.plus = number-keeps
-    class-keeps Class.other = tt
-
-    pub item-keeps : ItemKeeps b s (item sw b s)
-    unfolding item
-    item-keeps = class-keeps (classOf b)
+item-keeps : (sw : Switches) (b : ℕ) (s : List ℕ) → ItemKeeps b s (item sw b s)
+unfolding ItemKeeps Keeps Short Ranged number
+item-keeps sw b s =
+    item-case sw b s (ItemKeeps b s) (record {
+      of-gap = λ more h y. tt;
+      of-mark = λ y. tt;
+      of-word = refl;
+      of-string = λ isText body head k m c q h e.
+          let l = take (m - suc k) (drop head s) in
+          let z = subst (Short (length l)) e (content-short sw isText body l) in
+          let t = take-le (m - suc k) (drop head s) in
+          let d = length-drop head s in
+          string-keeps b s isText c (head + m) (omega arith);
+      of-integer = λ z. tt;
+      of-decimal = λ minus m p e. subst Ranged e (meaning-ranged (feed numberStep Start (b ∷ take (front isNumberByte s) s)));
+      of-fault = λ n h. tt;
+    })
 
 -- the same by the places of a text
 pub at-keeps : (sw : Switches) (s : List ℕ) (at : ℕ) (form : Form) (more : ℕ) → itemAt sw s at ≡ L.token form more
     → Keeps (getD s at 0) (drop (suc at) s) more form
 unfolding itemAt ItemKeeps
-at-keeps sw s at form more e = subst (ItemKeeps (getD s at 0) (drop (suc at) s)) e (item-keeps (getD s at 0) (drop (suc at) s) sw)
+at-keeps sw s at form more e = subst (ItemKeeps (getD s at 0) (drop (suc at) s)) e (item-keeps sw (getD s at 0) (drop (suc at) s))
