@@ -13,7 +13,7 @@ use Rattle.text.specs.declared.switches.Switches.{Switches}
 use Rattle.text.proofs.Choice.{cond-true}
 use Rattle.lexer.specs.Token.{Form, Item, token, item, itemAt, keyContent, wholeItem, tokenContent}
 use Rattle.lexer.proofs.TokenLaws.{EndsBy, itemAt-ends}
-use Rattle.lexer.proofs.LocalLaws.{heads, EndsAt, ItemSeam, all-seam}
+use Rattle.lexer.proofs.Seams.{heads, EndsAt, ItemSeam, all-seam}
 use Rattle.lexer.proofs.SeamLaws.{same-item}
 
 -- ---- a token before nothing

@@ -17,7 +17,7 @@ use Rattle.literals.specs.Number.{number}
 use Rattle.lexer.specs.Closing.{notNewline}
 use Rattle.lexer.specs.Token.{Form, stringForm, mark, word, text, bytes, integer, decimal, Item, gap, token, fault, itemOf, item}
 use Rattle.lexer.proofs.ItemCases.{Loose, item-case}
-use Rattle.lexer.proofs.LocalLaws.{EndsAt, goesOn}
+use Rattle.lexer.proofs.Seams.{EndsAt, goesOn}
 
 -- ---- bytes above 127 begin no item
 

@@ -14,7 +14,7 @@ use Rattle.text.specs.Bytes.{feed}
 use Rattle.text.specs.Utf8.{lead, utf8Step, utf8, isWhole}
 use Rattle.text.proofs.Utf8Join.{AsciiHead, utf8-front, utf8-append}
 use Rattle.lexer.specs.Token.{Form, token, item, Token, Tokens, cut, tokens}
-use Rattle.lexer.proofs.LocalLaws.{heads, goesOn, form-ends}
+use Rattle.lexer.proofs.Seams.{heads, goesOn, form-ends}
 use Rattle.lexer.proofs.LastLaws.{LowLast, item-low}
 use Rattle.lexer.proofs.SeamLaws.{cutToken}
 use Rattle.lexer.proofs.WalkLaws.{here, past, took, Follows, walk-before, place-on}

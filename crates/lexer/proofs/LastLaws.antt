@@ -23,7 +23,7 @@ use Rattle.lexer.specs.Internal.{isClosed}
 use Rattle.lexer.specs.Token.{Item, gap, token, fault, hasEscapes, itemOf, item}
 use Rattle.lexer.proofs.ClosingLaws.{closingBytes, closed-stays}
 use Rattle.lexer.proofs.ItemCases.{item-case}
-use Rattle.lexer.proofs.LocalLaws.{close-goes}
+use Rattle.lexer.proofs.LocalStrings.{close-goes}
 
 -- ---- bytes of words and numbers
 

@@ -5,6 +5,9 @@ pub mod ItemCases
 pub mod TokenLaws
 pub mod PlaceLaws
 pub mod NextLaws
+pub mod Seams
+pub mod LocalRuns
+pub mod LocalStrings
 pub mod LocalLaws
 pub mod FaultLaws
 pub mod FirstLaws

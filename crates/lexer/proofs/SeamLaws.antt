@@ -10,7 +10,8 @@ use lib.Seq.{drop-at}
 use Rattle.text.specs.declared.switches.Switches.{Switches}
 use Rattle.lexer.specs.Token.{Form, Item, gap, token, fault, item, Token, Tokens, next, end, afterItem, cut}
 use Rattle.lexer.proofs.TokenLaws.{EndsBy, item-ends, fromItem, cut-item}
-use Rattle.lexer.proofs.LocalLaws.{EndsAt, ItemSeam, item-local}
+use Rattle.lexer.proofs.Seams.{EndsAt, ItemSeam}
+use Rattle.lexer.proofs.LocalLaws.{item-local}
 
 -- the token of a form at a place
 abbrev pub cutToken : Form → (at more : ℕ) → Token

@@ -10,7 +10,7 @@ use lib.ListN.{length, length-append}
 use Rattle.text.specs.declared.switches.Switches.{Switches}
 use Rattle.lexer.specs.Closing.{notNewline}
 use Rattle.lexer.specs.Token.{Form, gap, token, item, Token, Tokens, next, cut}
-use Rattle.lexer.proofs.LocalLaws.{EndsAt, Seam, heads, ItemSeam, FormSeam, all-seam, goesOn, form-ends}
+use Rattle.lexer.proofs.Seams.{EndsAt, Seam, heads, ItemSeam, FormSeam, all-seam, goesOn, form-ends}
 use Rattle.lexer.proofs.SeamLaws.{cutToken, cut-past, cut-took, same-item}
 
 module _ (sw : Switches) {S : Type 0} (Move : S → Token → S → Type 0) (from : ℕ) (s₀ : S) where

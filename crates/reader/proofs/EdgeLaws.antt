@@ -17,7 +17,7 @@ use Rattle.text.proofs.Utf8Join.{AsciiHead}
 use Rattle.lexer.specs.Closing.{notNewline}
 use Rattle.lexer.specs.Token as L
 use Rattle.lexer.specs.Token.{Token, Tokens, Form, Item, item, cut}
-use Rattle.lexer.proofs.LocalLaws.{EndsAt, heads, goesOn, ItemSeam, FormSeam, form-ends}
+use Rattle.lexer.proofs.Seams.{EndsAt, heads, goesOn, ItemSeam, FormSeam, form-ends}
 use Rattle.lexer.proofs.FirstLaws.{SolidForm, Solid, solid, item-ascii}
 use Rattle.lexer.proofs.SeamLaws.{cutToken, cut-took, cut-fault, split-token}
 use Rattle.lexer.proofs.WalkLaws.{here, past, took, Follows}

@@ -13,7 +13,7 @@ use Rattle.text.proofs.Utf8Join.{AsciiHead}
 use Rattle.lexer.specs.Closing.{notNewline}
 use Rattle.lexer.specs.Token as L
 use Rattle.lexer.specs.Token.{Token, Form, item, cut}
-use Rattle.lexer.proofs.LocalLaws.{EndsAt, heads}
+use Rattle.lexer.proofs.Seams.{EndsAt, heads}
 use Rattle.lexer.proofs.FirstLaws.{item-ascii, newline-gap}
 use Rattle.lexer.proofs.SeamLaws.{cutToken}
 use Rattle.lexer.proofs.WalkLaws.{here, past, took}

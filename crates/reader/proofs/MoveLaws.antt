@@ -12,7 +12,7 @@ use Rattle.text.specs.declared.switches.Switches.{Switches}
 use Rattle.text.proofs.Choice.{cond-pair}
 use Rattle.lexer.specs.Token as L
 use Rattle.lexer.specs.Token.{Token, Form, item, cut}
-use Rattle.lexer.proofs.LocalLaws.{heads, goesOn}
+use Rattle.lexer.proofs.Seams.{heads, goesOn}
 use Rattle.lexer.proofs.SeamLaws.{cutToken, mapToken, onBy}
 use Rattle.lexer.proofs.WalkLaws.{here, past, took, walk-before, walk-map}
 use Rattle.reader.specs.Tree.{Span, Head, Scalar, Tree, leaf, branch, Forest, nil, snoc, headOf}

@@ -14,7 +14,7 @@ use Rattle.text.specs.Utf8.{utf8, isWhole, wholeFront}
 use Rattle.text.proofs.Choice.{cond-case, cond-true, and-right}
 use Rattle.text.proofs.Utf8Join.{AsciiHead, utf8-replace}
 use Rattle.lexer.specs.Token.{Tokens, cut, tokens}
-use Rattle.lexer.proofs.LocalLaws.{heads, goesOn}
+use Rattle.lexer.proofs.Seams.{heads, goesOn}
 use Rattle.lexer.proofs.SeamLaws.{mapTokens, onBy, cut-alone}
 use Rattle.lexer.proofs.WalkLaws.{walk-before}
 use Rattle.reader.specs.Tree.{Tree, size, headOf}

@@ -16,7 +16,7 @@ use Rattle.text.specs.Utf8.{lead, utf8Step, utf8, isWhole}
 use Rattle.text.proofs.Utf8Join.{utf8-append}
 use Rattle.lexer.specs.Token as L
 use Rattle.lexer.specs.Token.{Token, itemOf, item, afterItem, cut}
-use Rattle.lexer.proofs.LocalLaws.{heads, goesOn}
+use Rattle.lexer.proofs.Seams.{heads, goesOn}
 use Rattle.lexer.proofs.SeamLaws.{cutToken}
 use Rattle.text.proofs.Choice.{cond-both}
 use Rattle.reader.specs.Tree.{Span, Tree, leaf, branch, nil, snoc}
