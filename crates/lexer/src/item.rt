@@ -284,7 +284,8 @@ fn small_item(sw: Switches, text: &[u8], at: usize) -> Found
     word_item(text, at)
 }
 
-// What stands at a place of a text. The two commonest bytes are told by themselves: a comparison costs less than the table of classes.
+// What stands at a place of a text. The commonest first bytes are told by themselves: a comparison costs less than the table of
+// classes.
 pub fn item_at(sw: Switches, text: &[u8], at: usize) -> Found
     ensures { λ r. ⌜ r ≡ foundAt sw (now (text .entry)) at ⌝ }
 {
@@ -297,6 +298,14 @@ pub fn item_at(sw: Switches, text: &[u8], at: usize) -> Found
     }
     if b == b' ' {
         return Found::Gap(at + 1);
+    }
+    if b == b'"' {
+        return string_item(sw, text, at, true, Body::Quoted, 0, 0);
+    }
+    if b'a' <= b {
+        if b <= b'z' {
+            return small_item(sw, text, at);
+        }
     }
     let class = text::bytes::class_of(b);
     match class {

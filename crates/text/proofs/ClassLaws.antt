@@ -1,12 +1,13 @@
--- A class by its number, the one byte of the class 5, and that bytes above 127 are of no class of their own.
+-- A class by its number, the one byte of the class 5, the letters of the class 3, and that bytes above 127 are of no class of their own.
 -- Assumes nothing.
 use mathlib.Core.Path.{_≡_, refl, sym, ap, _∙_, subst}
 use Prim.Native.Nat.{ℕ, _<_, _≤_}
-use mathlib.Core.Bool.{Bool, true, cond, _||_}
+use mathlib.Core.Bool.{Bool, true, cond, _&&_, _||_}
 use mathlib.Core.List.{List, [], _∷_}
 use lib.Dec.{T, leb, eqb, eqb→eq, leb→le}
 use lib.ListN.{replicate, length-replicate}
 use native.Mathlib.Omega.{arith}
+use borrow.Author.Tests.{le-leb}
 use Rattle.text.specs.Bytes.{Class, space, digit, capital, small, joiner, quote, tick, mark, slash, plus, other, classOf, classNumber, oneOf, isSpace, isDigit, isCapital, isSmall, isJoiner, is, ascii, within}
 use Rattle.text.proofs.Choice.{cond-both, both-right, or-case}
 use Rattle.text.proofs.Table.{every, at}
@@ -57,6 +58,21 @@ unfolding oneQuote
 quote-number b h e =
     let l = length-replicate {A = ℕ} 256 0 in
     eqb→eq b 34 (subst (λ (n : ℕ). T (cond (eqb n 5) (eqb b 34) true)) e (at oneQuote (replicate 256 0) all-quotes b (omega arith)))
+
+-- the bytes from 97 to 122 are of the class 3
+smallHere : ℕ → ℕ → Bool
+smallHere b x = cond (within 97 122 b) (eqb (classNumber (classOf b)) 3) true
+
+all-small : T (every smallHere 0 (replicate 256 0))
+unfolding smallHere classOf classNumber oneOf
+all-small = tt
+
+pub small-number : (b : ℕ) → 97 ≤ b → b ≤ 122 → 3 ≡ classNumber (classOf b)
+unfolding smallHere
+small-number b h k =
+    let l = length-replicate {A = ℕ} 256 0 in
+    let t : T (cond (leb 97 b && leb b 122) (eqb (classNumber (classOf b)) 3) true) = at smallHere (replicate 256 0) all-small b (omega arith) in
+    sym (eqb→eq (classNumber (classOf b)) 3 (rw (le-leb 97 b h, le-leb b 122 k) at t))
 
 -- ---- tests that name bytes
 

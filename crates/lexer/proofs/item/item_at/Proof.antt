@@ -5,7 +5,7 @@ use Prim.Native.Nat.{ℕ, _+_, _-_, suc, _≤_, _<_}
 use mathlib.Core.Bool.{Bool, cond}
 use borrow.Author.Tests.{eq-eqb, ne-eqb}
 use Rattle.text.specs.Bytes.{Class, classOf, classNumber, oneOf}
-use Rattle.text.proofs.ClassLaws.{classAt}
+use Rattle.text.proofs.ClassLaws.{classAt, small-number}
 use Rattle.lexer.specs.declared.item.TokenKind.the-variants as K
 use Rattle.lexer.specs.declared.item.Found.the-variants as F
 use Rattle.lexer.specs.Token.{itemOf}
@@ -44,11 +44,26 @@ returns-3 : tie.Need-returns-3
 unfolding itemOf classOf classNumber classAt oneOf found kindOf
 returns-3 c = ap F.Gap (omega arith) ∙ sym (item-by (c .before .before .before .before .before .args .sw) (c .before .before .before .before .before .args .text .now) (c .before .before .before .before .before .args .at) 0 0 (c .before .before .before .if1 .left) (ap (λ (b : ℕ). classNumber (classOf b)) (sym (c .if3 .taken))) refl)
 
+string-item-requires : tie.Need-string-item-requires
+string-item-requires c κs = omega arith
+
+returns-4 : tie.Need-returns-4
+unfolding itemOf classOf classNumber classAt oneOf found kindOf
+returns-4 c = let j : c .before .before .before .before .before .before .before .args .at + 1 + 0 ≡ c .before .before .before .before .before .before .before .args .at + 1 = omega arith in
+    rw j at (c .string-item .ensures) ∙ sym (item-by (c .before .before .before .before .before .before .before .args .sw) (c .before .before .before .before .before .before .before .args .text .now) (c .before .before .before .before .before .before .before .args .at) 5 5 (c .before .before .before .before .before .if1 .left) (ap (λ (b : ℕ). classNumber (classOf b)) (sym (c .before .if4 .taken))) refl)
+
+small-item-requires : tie.Need-small-item-requires
+small-item-requires c κs = search needs
+
+returns-5 : tie.Need-returns-5
+unfolding itemOf classOf classNumber classAt oneOf found kindOf
+returns-5 c = c .small-item .ensures ∙ sym (item-by (c .before .before .before .before .before .before .before .before .before .args .sw) (c .before .before .before .before .before .before .before .before .before .args .text .now) (c .before .before .before .before .before .before .before .before .before .args .at) 3 3 (c .before .before .before .before .before .before .before .if1 .left) (small-number _ (c .before .before .if5 .taken) (c .before .if6 .taken)) refl)
+
 class-of-requires : tie.Need-class-of-requires
 class-of-requires c κs = search needs
 
-add-t14 : tie.Need-add-t14
-add-t14 c = omega arith
+add-t16 : tie.Need-add-t16
+add-t16 c = omega arith
 
 number-item-requires : tie.Need-number-item-requires
 number-item-requires c κs = search needs
@@ -56,28 +71,28 @@ number-item-requires c κs = search needs
 word-item-requires : tie.Need-word-item-requires
 word-item-requires c κs = search needs
 
-small-item-requires : tie.Need-small-item-requires
-small-item-requires c κs = search needs
+small-item-requires-2 : tie.Need-small-item-requires-2
+small-item-requires-2 c κs = search needs
 
 word-item-requires-2 : tie.Need-word-item-requires-2
 word-item-requires-2 c κs = search needs
 
-returns-4 : tie.Need-returns-4
+returns-6 : tie.Need-returns-6
 unfolding itemOf classAt found kindOf
-returns-4 c = c .word-item2 .ensures ∙ sym (item-by (c .before .before .before .before .before .before .before .before .before .args .sw) (c .before .before .before .before .before .before .before .before .before .args .text .now) (c .before .before .before .before .before .before .before .before .before .args .at) (c .before .before .before .class-of .result) 4 (c .before .before .before .before .before .before .before .if1 .left) (c .before .before .before .class-of .ensures) (c .before .before .match .keys5) ∙ rw (eq-eqb _ _ (c .before .if4 .taken)))
+returns-6 c = c .word-item2 .ensures ∙ sym (item-by (c .before .before .before .before .before .before .before .before .before .before .before .args .sw) (c .before .before .before .before .before .before .before .before .before .before .before .args .text .now) (c .before .before .before .before .before .before .before .before .before .before .before .args .at) (c .before .before .before .class-of .result) 4 (c .before .before .before .before .before .before .before .before .before .if1 .left) (c .before .before .before .class-of .ensures) (c .before .before .match .keys5) ∙ rw (eq-eqb _ _ (c .before .if7 .taken)))
 
 number-item-requires-2 : tie.Need-number-item-requires-2
 number-item-requires-2 c κs = search needs
 
-string-item-requires : tie.Need-string-item-requires
-string-item-requires c κs = omega arith
+string-item-requires-2 : tie.Need-string-item-requires-2
+string-item-requires-2 c κs = omega arith
 
-returns-5 : tie.Need-returns-5
+returns-7 : tie.Need-returns-7
 unfolding itemOf classAt found kindOf
-returns-5 c = sym (item-by (c .before .before .before .before .before .before .before .before .args .sw) (c .before .before .before .before .before .before .before .before .args .text .now) (c .before .before .before .before .before .before .before .before .args .at) (c .before .before .class-of .result) 6 (c .before .before .before .before .before .before .if1 .left) (c .before .before .class-of .ensures) (c .before .match .keys7) ∙ rw (c .if5 .taken))
+returns-7 c = sym (item-by (c .before .before .before .before .before .before .before .before .before .before .args .sw) (c .before .before .before .before .before .before .before .before .before .before .args .text .now) (c .before .before .before .before .before .before .before .before .before .before .args .at) (c .before .before .class-of .result) 6 (c .before .before .before .before .before .before .before .before .if1 .left) (c .before .before .class-of .ensures) (c .before .match .keys7) ∙ rw (c .if8 .taken))
 
-add-t19 : tie.Need-add-t19
-add-t19 c = omega arith
+add-t21 : tie.Need-add-t21
+add-t21 c = omega arith
 
 comment-item-requires : tie.Need-comment-item-requires
 comment-item-requires c κs = search needs
@@ -85,53 +100,53 @@ comment-item-requires c κs = search needs
 number-item-requires-3 : tie.Need-number-item-requires-3
 number-item-requires-3 c κs = search needs
 
-returns-6 : tie.Need-returns-6
-unfolding itemOf classAt found kindOf
-returns-6 c = ap F.Gap (omega arith) ∙ sym (item-by (c .before .before .before .before .before .before .before .args .sw) (c .before .before .before .before .before .before .before .args .text .now) (c .before .before .before .before .before .before .before .args .at) (c .before .class-of .result) 0 (c .before .before .before .before .before .if1 .left) (c .before .class-of .ensures) (c .match .keys1))
-
-returns-7 : tie.Need-returns-7
-unfolding itemOf classAt found kindOf
-returns-7 c = c .number-item .ensures ∙ sym (item-by (c .before .before .before .before .before .before .before .before .args .sw) (c .before .before .before .before .before .before .before .before .args .text .now) (c .before .before .before .before .before .before .before .before .args .at) (c .before .before .class-of .result) 1 (c .before .before .before .before .before .before .if1 .left) (c .before .before .class-of .ensures) (c .before .match .keys2))
-
 returns-8 : tie.Need-returns-8
 unfolding itemOf classAt found kindOf
-returns-8 c = c .word-item .ensures ∙ sym (item-by (c .before .before .before .before .before .before .before .before .args .sw) (c .before .before .before .before .before .before .before .before .args .text .now) (c .before .before .before .before .before .before .before .before .args .at) (c .before .before .class-of .result) 2 (c .before .before .before .before .before .before .if1 .left) (c .before .before .class-of .ensures) (c .before .match .keys3))
+returns-8 c = ap F.Gap (omega arith) ∙ sym (item-by (c .before .before .before .before .before .before .before .before .before .args .sw) (c .before .before .before .before .before .before .before .before .before .args .text .now) (c .before .before .before .before .before .before .before .before .before .args .at) (c .before .class-of .result) 0 (c .before .before .before .before .before .before .before .if1 .left) (c .before .class-of .ensures) (c .match .keys1))
 
 returns-9 : tie.Need-returns-9
 unfolding itemOf classAt found kindOf
-returns-9 c = c .small-item .ensures ∙ sym (item-by (c .before .before .before .before .before .before .before .before .args .sw) (c .before .before .before .before .before .before .before .before .args .text .now) (c .before .before .before .before .before .before .before .before .args .at) (c .before .before .class-of .result) 3 (c .before .before .before .before .before .before .if1 .left) (c .before .before .class-of .ensures) (c .before .match .keys4))
+returns-9 c = c .number-item .ensures ∙ sym (item-by (c .before .before .before .before .before .before .before .before .before .before .args .sw) (c .before .before .before .before .before .before .before .before .before .before .args .text .now) (c .before .before .before .before .before .before .before .before .before .before .args .at) (c .before .before .class-of .result) 1 (c .before .before .before .before .before .before .before .before .if1 .left) (c .before .before .class-of .ensures) (c .before .match .keys2))
 
 returns-10 : tie.Need-returns-10
 unfolding itemOf classAt found kindOf
-returns-10 c = c .number-item2 .ensures ∙ sym (item-by (c .before .before .before .before .before .before .before .before .before .args .sw) (c .before .before .before .before .before .before .before .before .before .args .text .now) (c .before .before .before .before .before .before .before .before .before .args .at) (c .before .before .before .class-of .result) 4 (c .before .before .before .before .before .before .before .if1 .left) (c .before .before .before .class-of .ensures) (c .before .before .match .keys5) ∙ rw (ne-eqb _ _ (c .before .if4 .left)))
+returns-10 c = c .word-item .ensures ∙ sym (item-by (c .before .before .before .before .before .before .before .before .before .before .args .sw) (c .before .before .before .before .before .before .before .before .before .before .args .text .now) (c .before .before .before .before .before .before .before .before .before .before .args .at) (c .before .before .class-of .result) 2 (c .before .before .before .before .before .before .before .before .if1 .left) (c .before .before .class-of .ensures) (c .before .match .keys3))
 
 returns-11 : tie.Need-returns-11
 unfolding itemOf classAt found kindOf
-returns-11 c = let j : c .before .before .before .before .before .before .before .before .args .at + 1 + 0 ≡ c .before .before .before .before .before .before .before .before .args .at + 1 = omega arith in
-    rw j at (c .string-item .ensures) ∙ sym (item-by (c .before .before .before .before .before .before .before .before .args .sw) (c .before .before .before .before .before .before .before .before .args .text .now) (c .before .before .before .before .before .before .before .before .args .at) (c .before .before .class-of .result) 5 (c .before .before .before .before .before .before .if1 .left) (c .before .before .class-of .ensures) (c .before .match .keys6))
+returns-11 c = c .small-item2 .ensures ∙ sym (item-by (c .before .before .before .before .before .before .before .before .before .before .args .sw) (c .before .before .before .before .before .before .before .before .before .before .args .text .now) (c .before .before .before .before .before .before .before .before .before .before .args .at) (c .before .before .class-of .result) 3 (c .before .before .before .before .before .before .before .before .if1 .left) (c .before .before .class-of .ensures) (c .before .match .keys4))
 
 returns-12 : tie.Need-returns-12
 unfolding itemOf classAt found kindOf
-returns-12 c = sym (item-by (c .before .before .before .before .before .before .before .before .args .sw) (c .before .before .before .before .before .before .before .before .args .text .now) (c .before .before .before .before .before .before .before .before .args .at) (c .before .before .class-of .result) 6 (c .before .before .before .before .before .before .if1 .left) (c .before .before .class-of .ensures) (c .before .match .keys7) ∙ rw (c .if5 .left))
+returns-12 c = c .number-item2 .ensures ∙ sym (item-by (c .before .before .before .before .before .before .before .before .before .before .before .args .sw) (c .before .before .before .before .before .before .before .before .before .before .before .args .text .now) (c .before .before .before .before .before .before .before .before .before .before .before .args .at) (c .before .before .before .class-of .result) 4 (c .before .before .before .before .before .before .before .before .before .if1 .left) (c .before .before .before .class-of .ensures) (c .before .before .match .keys5) ∙ rw (ne-eqb _ _ (c .before .if7 .left)))
 
 returns-13 : tie.Need-returns-13
 unfolding itemOf classAt found kindOf
-returns-13 c = let j : c .before .before .before .before .before .before .before .args .at + 1 ≡ c .before .before .before .before .before .before .before .args .at + suc 0 = omega arith in
-    ap (F.Token (K.Mark (getD (c .before .before .before .before .before .before .before .args .text .now) (c .before .before .before .before .before .before .before .args .at) 0))) j ∙ sym (item-by (c .before .before .before .before .before .before .before .args .sw) (c .before .before .before .before .before .before .before .args .text .now) (c .before .before .before .before .before .before .before .args .at) (c .before .class-of .result) 7 (c .before .before .before .before .before .if1 .left) (c .before .class-of .ensures) (c .match .keys8))
+returns-13 c = let j : c .before .before .before .before .before .before .before .before .before .before .args .at + 1 + 0 ≡ c .before .before .before .before .before .before .before .before .before .before .args .at + 1 = omega arith in
+    rw j at (c .string-item2 .ensures) ∙ sym (item-by (c .before .before .before .before .before .before .before .before .before .before .args .sw) (c .before .before .before .before .before .before .before .before .before .before .args .text .now) (c .before .before .before .before .before .before .before .before .before .before .args .at) (c .before .before .class-of .result) 5 (c .before .before .before .before .before .before .before .before .if1 .left) (c .before .before .class-of .ensures) (c .before .match .keys6))
 
 returns-14 : tie.Need-returns-14
 unfolding itemOf classAt found kindOf
-returns-14 c = c .comment-item .ensures ∙ sym (item-by (c .before .before .before .before .before .before .before .before .args .sw) (c .before .before .before .before .before .before .before .before .args .text .now) (c .before .before .before .before .before .before .before .before .args .at) (c .before .before .class-of .result) 8 (c .before .before .before .before .before .before .if1 .left) (c .before .before .class-of .ensures) (c .before .match .keys9))
+returns-14 c = sym (item-by (c .before .before .before .before .before .before .before .before .before .before .args .sw) (c .before .before .before .before .before .before .before .before .before .before .args .text .now) (c .before .before .before .before .before .before .before .before .before .before .args .at) (c .before .before .class-of .result) 6 (c .before .before .before .before .before .before .before .before .if1 .left) (c .before .before .class-of .ensures) (c .before .match .keys7) ∙ rw (c .if8 .left))
 
 returns-15 : tie.Need-returns-15
 unfolding itemOf classAt found kindOf
-returns-15 c = c .number-item3 .ensures ∙ sym (item-by (c .before .before .before .before .before .before .before .before .args .sw) (c .before .before .before .before .before .before .before .before .args .text .now) (c .before .before .before .before .before .before .before .before .args .at) (c .before .before .class-of .result) 9 (c .before .before .before .before .before .before .if1 .left) (c .before .before .class-of .ensures) (c .before .match .keys10))
+returns-15 c = let j : c .before .before .before .before .before .before .before .before .before .args .at + 1 ≡ c .before .before .before .before .before .before .before .before .before .args .at + suc 0 = omega arith in
+    ap (F.Token (K.Mark (getD (c .before .before .before .before .before .before .before .before .before .args .text .now) (c .before .before .before .before .before .before .before .before .before .args .at) 0))) j ∙ sym (item-by (c .before .before .before .before .before .before .before .before .before .args .sw) (c .before .before .before .before .before .before .before .before .before .args .text .now) (c .before .before .before .before .before .before .before .before .before .args .at) (c .before .class-of .result) 7 (c .before .before .before .before .before .before .before .if1 .left) (c .before .class-of .ensures) (c .match .keys8))
 
 returns-16 : tie.Need-returns-16
+unfolding itemOf classAt found kindOf
+returns-16 c = c .comment-item .ensures ∙ sym (item-by (c .before .before .before .before .before .before .before .before .before .before .args .sw) (c .before .before .before .before .before .before .before .before .before .before .args .text .now) (c .before .before .before .before .before .before .before .before .before .before .args .at) (c .before .before .class-of .result) 8 (c .before .before .before .before .before .before .before .before .if1 .left) (c .before .before .class-of .ensures) (c .before .match .keys9))
+
+returns-17 : tie.Need-returns-17
+unfolding itemOf classAt found kindOf
+returns-17 c = c .number-item3 .ensures ∙ sym (item-by (c .before .before .before .before .before .before .before .before .before .before .args .sw) (c .before .before .before .before .before .before .before .before .before .before .args .text .now) (c .before .before .before .before .before .before .before .before .before .before .args .at) (c .before .before .class-of .result) 9 (c .before .before .before .before .before .before .before .before .if1 .left) (c .before .before .class-of .ensures) (c .before .match .keys10))
+
+returns-18 : tie.Need-returns-18
 unfolding itemOf found
-returns-16 c = let r = c .match .rest in
-    sym (item-by (c .before .before .before .before .before .before .before .args .sw) (c .before .before .before .before .before .before .before .args .text .now) (c .before .before .before .before .before .before .before .args .at) (c .before .class-of .result) (c .before .class-of .result) (c .before .before .before .before .before .if1 .left) (c .before .class-of .ensures) refl
-    ∙ ap (λ (k : Class). found (c .before .before .before .before .before .before .before .args .at) (itemOf (c .before .before .before .before .before .before .before .args .sw) k (getD (c .before .before .before .before .before .before .before .args .text .now) (c .before .before .before .before .before .before .before .args .at) 0) (drop (c .before .before .before .before .before .before .before .args .at + 1) (c .before .before .before .before .before .before .before .args .text .now)))) (class-other (c .before .class-of .result) (r .0 .0 .0 .0 .0 .0 .0 .0 .0 .1) (r .0 .0 .0 .0 .0 .0 .0 .0 .1) (r .0 .0 .0 .0 .0 .0 .0 .1) (r .0 .0 .0 .0 .0 .0 .1) (r .0 .0 .0 .0 .0 .1) (r .0 .0 .0 .0 .1) (r .0 .0 .0 .1) (r .0 .0 .1) (r .0 .1) (r .1)))
+returns-18 c = let r = c .match .rest in
+    sym (item-by (c .before .before .before .before .before .before .before .before .before .args .sw) (c .before .before .before .before .before .before .before .before .before .args .text .now) (c .before .before .before .before .before .before .before .before .before .args .at) (c .before .class-of .result) (c .before .class-of .result) (c .before .before .before .before .before .before .before .if1 .left) (c .before .class-of .ensures) refl
+    ∙ ap (λ (k : Class). found (c .before .before .before .before .before .before .before .before .before .args .at) (itemOf (c .before .before .before .before .before .before .before .before .before .args .sw) k (getD (c .before .before .before .before .before .before .before .before .before .args .text .now) (c .before .before .before .before .before .before .before .before .before .args .at) 0) (drop (c .before .before .before .before .before .before .before .before .before .args .at + 1) (c .before .before .before .before .before .before .before .before .before .args .text .now)))) (class-other (c .before .class-of .result) (r .0 .0 .0 .0 .0 .0 .0 .0 .0 .1) (r .0 .0 .0 .0 .0 .0 .0 .0 .1) (r .0 .0 .0 .0 .0 .0 .0 .1) (r .0 .0 .0 .0 .0 .0 .1) (r .0 .0 .0 .0 .0 .1) (r .0 .0 .0 .0 .1) (r .0 .0 .0 .1) (r .0 .0 .1) (r .0 .1) (r .1)))
 
 pub item-at-spec : {M : Type 1} → statement M
 item-at-spec =
@@ -143,21 +158,23 @@ item-at-spec =
     returns-2
     add-t12
     returns-3
+    string-item-requires
+    returns-4
+    small-item-requires
+    returns-5
     class-of-requires
-    add-t14
+    add-t16
     number-item-requires
     word-item-requires
-    small-item-requires
+    small-item-requires-2
     word-item-requires-2
-    returns-4
+    returns-6
     number-item-requires-2
-    string-item-requires
-    returns-5
-    add-t19
+    string-item-requires-2
+    returns-7
+    add-t21
     comment-item-requires
     number-item-requires-3
-    returns-6
-    returns-7
     returns-8
     returns-9
     returns-10
@@ -166,4 +183,6 @@ item-at-spec =
     returns-13
     returns-14
     returns-15
-    returns-16)
+    returns-16
+    returns-17
+    returns-18)
