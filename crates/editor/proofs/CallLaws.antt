@@ -24,7 +24,7 @@ use Rattle.editor.specs.Edit.{Lent, Result, Shows, textOf, changeOf, ver
 use Rattle.editor.specs.Internal.{changed, refusedWith, TableIs, TriesIs, Tries, ReadNow, Stopped, OpensIs, Opens, opened}
 use Rattle.editor.proofs.SpliceLaws.{take-overwritten}
 use Rattle.reader.proofs.NumberBound.{NumberWithin, number-law}
-use Rattle.reader.proofs.SizeLaws.{taken-nodes}
+use Rattle.reader.proofs.SizeLaws.{taken-is, taken-not, taken-nodes}
 
 -- ---- lists
 
@@ -40,16 +40,6 @@ pub front-is : (n : ℕ) (x d e : List ℕ) → e ≡ overwritten 0 x d → n �
 front-is n x d e p q h = let z : n ≡ 0 + length x = omega arith in ap₂ (λ (k : ℕ) (l : List ℕ). take k l) z p ∙ take-overwritten 0 x d (omega arith)
 
 -- ---- readings
-
-taken-is : (o : Outcome) (n : ℕ) → answerOf o ≡ R.Taken n → isTaken o ≡ true
-unfolding answerOf isTaken
-taken-is (taken tree) n e = refl
-taken-is (refused k p) n e = cc
-
-taken-not : (o : Outcome) (k p : ℕ) → answerOf o ≡ R.Refused k p → isTaken o ≡ false
-unfolding answerOf isTaken
-taken-not (taken tree) k p e = cc
-taken-not (refused j q) k p e = refl
 
 module _ (sw : Switches) (words : ℕ) where
   -- ---- a new text on trial. `read` is the list that was lent for the new text.

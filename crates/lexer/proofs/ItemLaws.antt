@@ -1,16 +1,16 @@
--- A text cut at the end of an item: the items before the cut and their tokens. They are the same before another rest that may follow them, the
--- items of two parts put together are the items of both, and a text can be cut behind any of its tokens.
+-- A text cut at the end of an item: the items before the cut and their tokens. The items of two parts put together are the items of both, and
+-- a text can be cut behind any of its tokens.
 -- Assumes nothing.
 use mathlib.Core.Path.{_≡_, refl, sym, ap, _∙_, subst}
-use Prim.Native.Nat.{ℕ, zero, suc, _+_, _≤_, _<_}
+use Prim.Native.Nat.{ℕ, zero, suc, _+_, _≤_}
 use native.Mathlib.Nat.{le-refl}
 use native.Mathlib.Omega.{arith}
 use mathlib.Core.List.{List, [], _∷_, _++_, append-nil, append-assoc}
 use lib.ListN.{length, length-append}
 use Rattle.text.specs.declared.switches.Switches.{Switches}
-use Rattle.lexer.specs.Token.{Form, Item, gap, token, item, Token, Tokens, next, end, afterItem, cut}
-use Rattle.lexer.proofs.SeamLaws.{cutToken, cut-past, cut-took, cut-fault, split-gap, split-token, mapToken, onBy}
-use Rattle.lexer.proofs.WalkLaws.{Walk, here, past, took, Follows, walk-before, walk-cut, walk-map, walk-append}
+use Rattle.lexer.specs.Token.{Form, Item, gap, token, item, Token, Tokens, next, cut}
+use Rattle.lexer.proofs.SeamLaws.{cutToken, cut-past, cut-took, cut-fault, split-gap, split-token}
+use Rattle.lexer.proofs.WalkLaws.{Walk, here, past, took, walk-cut, walk-map, walk-append}
 
 abbrev pub Adds : List Token → Token → List Token → Type 0
 Adds ts t us = us ≡ ts ++ (t ∷ [])
@@ -29,37 +29,6 @@ unfolding leads
 leads-append [] us r = refl
 leads-append (t ∷ ts) us r = ap (next t) (leads-append ts us r)
 
--- all tokens lie before a place
-unfoldable pub Before : ℕ → List Token → Type 0
-Before n [] = Unit {0}
-Before n (t ∷ ts) = (t .start < n) × (t .stop ≤ n) × Before n ts
-
-before-more : (n m : ℕ) (ts us : List Token) → n ≤ m → Before n ts → Before m us → Before m (ts ++ us)
-unfolding Before
-before-more n m [] us h a b = b
-before-more n m (t ∷ ts) us h a b = let p = a .0 in let q = a .1 in (omega arith, omega arith, before-more n m ts us h (a .2) b)
-
--- all tokens lie behind a place
-unfoldable pub From : ℕ → Tokens → Type 0
-From n (next t ts) = (n ≤ t .start) × (n < t .stop) × From n ts
-From n (end place) = n ≤ place
-From n (Tokens.fault number place) = n ≤ place
-
-item-from : (n at : ℕ) (i : Item) (rest : ℕ → Tokens) → n ≤ at → ((more : ℕ) → From n (rest more)) → From n (afterItem at i rest)
-unfolding From afterItem
-item-from n at (gap more) rest h k = k more
-item-from n at (token form more) rest h k = (h, omega arith, k more)
-item-from n at (Item.fault number) rest h k = h
-
-unfoldable pub shiftAll : (d : ℕ) → List Token → List Token
-shiftAll d [] = []
-shiftAll d (t ∷ ts) = mapToken (onBy d) (onBy d) t ∷ shiftAll d ts
-
-shift-one : (d : ℕ) (ts : List Token) (t : Token) → shiftAll d (ts ++ (t ∷ [])) ≡ shiftAll d ts ++ (mapToken (onBy d) (onBy d) t ∷ [])
-unfolding shiftAll
-shift-one d [] t = refl
-shift-one d (u ∷ ts) t = ap (λ (l : List Token). mapToken (onBy d) (onBy d) u ∷ l) (shift-one d ts t)
-
 module _ (sw : Switches) where
   -- the tokens of the whole
   pub items-cut : (from : ℕ) {pre z : List ℕ} {ts : List Token} → Items sw from pre z ts
@@ -68,35 +37,6 @@ module _ (sw : Switches) where
   items-cut from p =
       walk-cut sw Adds from [] leads
       (λ ts us t r e. sym (ap (λ (l : List Token). leads l r) e ∙ leads-append ts (t ∷ []) r)) p
-
-  pub items-low : (from : ℕ) {pre z : List ℕ} {ts : List Token} → Items sw from pre z ts → Before (from + length pre) ts
-  unfolding Before
-  items-low from here = tt
-  items-low from (past pre b x {s = ts} p e) =
-      let l = length-append pre (b ∷ x) in
-      subst (Before (from + length (pre ++ (b ∷ x)))) (append-nil ts)
-      (before-more (from + length pre) (from + length (pre ++ (b ∷ x))) ts [] (omega arith) (items-low from p) tt)
-  items-low from (took pre b x form {s = ts} p e m) =
-      let l = length-append pre (b ∷ x) in
-      subst (Before (from + length (pre ++ (b ∷ x)))) (sym m)
-      (before-more (from + length pre) (from + length (pre ++ (b ∷ x))) ts (cutToken form (from + length pre) (length x) ∷ []) (omega arith)
-      (items-low from p) (omega arith, omega arith, tt))
-
-  pub cut-from : (n left at : ℕ) (s : List ℕ) → n ≤ at → From n (cut sw left at s)
-  unfolding cut From
-  cut-from n left at [] h = h
-  cut-from n (suc left) at (b ∷ s) h = cut-from n left (suc at) s (omega arith)
-  cut-from n zero at (b ∷ s) h = item-from n at (item sw b s) (λ more. cut sw more (suc at) s) h (λ more. cut-from n more (suc at) s (omega arith))
-
-  -- SHIFT, of whole items
-  pub items-shift : (d from : ℕ) {pre z : List ℕ} {ts : List Token} → Items sw from pre z ts → Items sw (from + d) pre z (shiftAll d ts)
-  unfolding shiftAll mapToken
-  items-shift d from p =
-      walk-map sw Adds Adds (shiftAll d) from (from + d)
-      (λ ts us form n more e.
-      let a : from + n + d ≡ from + d + n = omega arith in
-      let c : from + n + suc more + d ≡ from + d + n + suc more = omega arith in
-      ap (shiftAll d) e ∙ shift-one d ts (cutToken form (from + n) more) ∙ (λ i. shiftAll d ts ++ (record { form = form; start = a i; stop = c i } ∷ []))) p
 
   -- parts put together
   pub items-append : (from : ℕ) {pre y z : List ℕ} {ts us : List Token} → Items sw from pre (y ++ z) ts → Items sw (from + length pre) y z us
@@ -107,18 +47,6 @@ module _ (sw : Switches) where
       (walk-map sw Adds Adds (λ (vs : List Token). ts ++ vs) (from + length pre) (from + length pre)
       (λ vs ws form n more e.
       ap (λ (l : List Token). ts ++ l) e ∙ sym (append-assoc ts vs (cutToken form (from + length pre + n) more ∷ []))) q))
-
-  -- the tokens of a text with a part replaced: those before it, those of the replacement cut alone (shifted), and those behind it, cut from
-  -- there
-  pub replace-cut : {pre z r : List ℕ} {ts us : List Token} (post : List ℕ) (p : Items sw 0 pre z ts) (q : Items sw 0 r [] us)
-      → Follows sw Adds 0 [] p (r ++ post) → Follows sw Adds 0 [] q post
-      → cut sw 0 0 (pre ++ (r ++ post)) ≡ leads ts (leads (shiftAll (length pre) us) (cut sw 0 (length pre + length r) post))
-  replace-cut {pre} {z} {r} {ts} {us} post p q h k =
-      let e : 0 + length pre ≡ length pre = omega arith in
-      let m : Items sw (length pre) r post (shiftAll (length pre) us) =
-      subst (λ (n : ℕ). Items sw n r post (shiftAll (length pre) us)) e (items-shift (length pre) 0 (walk-before sw Adds 0 [] q post k)) in
-      items-cut 0 (walk-before sw Adds 0 [] p (r ++ post) h) ∙ ap (λ (n : ℕ). leads ts (cut sw 0 n (r ++ post))) e
-      ∙ ap (leads ts) (items-cut (length pre) m)
 
   -- one space or comment
   pub one-gap : (from b : ℕ) (x z : List ℕ) → item sw b (x ++ z) ≡ gap (length x) → Items sw from (b ∷ x) z []

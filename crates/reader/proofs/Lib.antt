@@ -1,6 +1,7 @@
 -- The laws of the reader's definitions, and those that the proofs of its functions go by.
 pub mod StopLaws
 pub mod TableLaws
+pub mod NestLaws
 pub mod SpanLaws
 pub mod SizeLaws
 pub mod Viable
@@ -18,7 +19,6 @@ pub mod MoveLaws
 pub mod KnownLaws
 pub mod ReplaceLaws
 pub mod RootLaws
-pub mod InsertLaws
 pub mod SignedLaws
 pub mod KeepLaws
 pub mod BeginLaws

@@ -115,7 +115,7 @@ outcome-run sw any limits text e h =
     cond-true (leb (length text) maxText) (cond (isWhole (utf8 text)) body (refused 2 (wholeFront (utf8 text)))) (refused 1 maxText) (le-leb (length text) maxText h)
     ∙ cond-true (isWhole (utf8 text)) body (refused 2 (wholeFront (utf8 text))) e
 
-reads-taken : (o : Outcome) → T (isTaken o) → (tree : Tree) × (o ≡ taken tree)
+pub reads-taken : (o : Outcome) → T (isTaken o) → (tree : Tree) × (o ≡ taken tree)
 unfolding isTaken
 reads-taken (taken t) h = (t, refl)
 reads-taken (refused k place) h = absurd h

@@ -18,7 +18,7 @@ use Rattle.reader.specs.Tree.{Span, Tree, leaf, branch, Forest, nil, con
 use Rattle.reader.specs.declared.tree.Limits.{Limits}
 use Rattle.reader.specs.Syntax.{Label, Frame, Slot, first, lone, after, more, Mode, value, named, inner, close, inside, colon, done, Config, Step, go, refuse, Begins, container, scalar, identifier, nothing, spanOf, isMark, closer, isObject, keyOf, begins, headBy, withStop, label, finished, ended, goTo, refuseIf, isComma, emptyByComma, holds, keyStep, closeOr, noNode, counted, valueStep, freshValue, childStep, slotStep, modeStep, step, Outcome, taken, refused, atEnd, afterStep, run, before}
 use Rattle.reader.specs.declared.read.Reading.the-variants as R
-use Rattle.reader.specs.Reading.{outcome, reading, nodeLimit, limitsOf, nodeCount, tableOf, answerOf, maxText}
+use Rattle.reader.specs.Reading.{outcome, reading, isTaken, nodeLimit, limitsOf, nodeCount, tableOf, answerOf, maxText}
 use Rattle.reader.proofs.StopLaws.{stops-size}
 use Rattle.reader.proofs.TableLaws.{length-rows}
 
@@ -220,7 +220,17 @@ table-length words (refused number place) h = length-replicate words 0
 pub table-law : (sw : Switches) (words : ℕ) (text : List ℕ) → length (tableOf words (reading sw words text)) ≡ words
 table-law sw words text = let h = count-law sw words text in table-length words (reading sw words text) (omega arith)
 
--- ---- the count that an answer tells
+-- ---- what an answer tells: that the text is taken, and the count
+
+pub taken-is : (o : Outcome) (n : ℕ) → answerOf o ≡ R.Taken n → isTaken o ≡ true
+unfolding answerOf isTaken
+taken-is (taken tree) n e = refl
+taken-is (refused k p) n e = cc
+
+pub taken-not : (o : Outcome) (k p : ℕ) → answerOf o ≡ R.Refused k p → isTaken o ≡ false
+unfolding answerOf isTaken
+taken-not (taken tree) k p e = cc
+taken-not (refused j q) k p e = refl
 
 pub taken-nodes : (o : Outcome) (n : ℕ) → answerOf o ≡ R.Taken n → n ≡ nodeCount o
 unfolding answerOf nodeCount

@@ -16,7 +16,7 @@ use Rattle.reader.specs.Reading.{tableOf, wordOf}
 
 -- ---- twelve words a node
 
-length-head : (kind parent : ℕ) (h : Head) (next : ℕ) → length (headWords kind parent h next) ≡ 9
+pub length-head : (kind parent : ℕ) (h : Head) (next : ℕ) → length (headWords kind parent h next) ≡ 9
 unfolding headWords spanWords
 length-head kind parent h next = both (h .key) (h .name)
   where
@@ -67,10 +67,10 @@ word-past h a b c l j k e =
     let q : 12 * suc j + k ≡ length h + suc (suc (suc (12 * j + k))) = omega arith in
     ap (λ (m : ℕ). getD (h ++ (a ∷ b ∷ c ∷ l)) m 0) q ∙ getD-append-add h (a ∷ b ∷ c ∷ l) (suc (suc (suc (12 * j + k)))) 0
 
-word-left : (l r : List ℕ) (n i k : ℕ) → length l ≡ 12 * n → i < n → k < 4 → wordOf (l ++ r) i k ≡ wordOf l i k
+pub word-left : (l r : List ℕ) (n i k : ℕ) → length l ≡ 12 * n → i < n → k < 12 → wordOf (l ++ r) i k ≡ wordOf l i k
 word-left l r n i k e h q = List·getD-append l r 0 (12 * i + k) (omega arith)
 
-word-right : (l r : List ℕ) (n j k : ℕ) → length l ≡ 12 * n → wordOf (l ++ r) (n + j) k ≡ wordOf r j k
+pub word-right : (l r : List ℕ) (n j k : ℕ) → length l ≡ 12 * n → wordOf (l ++ r) (n + j) k ≡ wordOf r j k
 word-right l r n j k e =
     let q : 12 * (n + j) + k ≡ length l + (12 * j + k) = omega arith in
     ap (λ (m : ℕ). getD (l ++ r) m 0) q ∙ getD-append-add l r (12 * j + k) 0
@@ -125,7 +125,7 @@ module _ (P : (any : Bool) (start stop : ℕ) → Type 0) where
         elim (decLt i (size t)) [
           | yes h ↦
               span-by true i i (rows parent m t ++ rowsAll parent (m + size t) f) (rows parent m t)
-              (λ k q. word-left (rows parent m t) (rowsAll parent (m + size t) f) (size t) i k (length-rows parent m t) h q)
+              (λ k q. word-left (rows parent m t) (rowsAll parent (m + size t) f) (size t) i k (length-rows parent m t) h (omega arith))
               (always i (rows-span true parent m t (a .0) i h))
           | no h ↦
               let g : size t ≤ i = omega arith in
@@ -144,5 +144,5 @@ module _ (P : (any : Bool) (start stop : ℕ) → Type 0) where
   unfolding tableOf padded
   table-span any words i t a h =
       span-by (anyAt any i) i i (rows noParent 0 t ++ replicate (words - length (rows noParent 0 t)) 0) (rows noParent 0 t)
-      (λ k q. word-left (rows noParent 0 t) (replicate (words - length (rows noParent 0 t)) 0) (size t) i k (length-rows noParent 0 t) h q)
+      (λ k q. word-left (rows noParent 0 t) (replicate (words - length (rows noParent 0 t)) 0) (size t) i k (length-rows noParent 0 t) h (omega arith))
       (rows-span any noParent 0 t a i h)
