@@ -1,0 +1,4 @@
+-- The proofs of what specs/ claims, and the laws that only they need.
+pub mod Insertion
+pub mod Nesting
+pub mod CallLaws

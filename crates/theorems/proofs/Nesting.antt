@@ -1,0 +1,2 @@
+-- Every node's span lies inside its parent's.
+pub mod NestedLaw

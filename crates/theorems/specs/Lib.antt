@@ -1,0 +1,5 @@
+-- What is claimed of the definitions and of the calls by their contracts, beside the sentences that ask for it.
+pub mod Insertion
+pub mod Nesting
+pub mod Calls
+pub mod Example
