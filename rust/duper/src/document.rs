@@ -59,6 +59,20 @@ impl Default for Limits {
 /// assert_eq!(document.text(), b"[412.5, null]");
 /// # Ok::<(), duper::Refusal>(())
 /// ```
+///
+/// Comments and spaces beside a token are no data: with them or without, the
+/// nodes are the same, and only places differ.
+///
+/// ```
+/// let plain = duper::Document::read("[412.5, null]")?;
+/// let annotated = duper::Document::read("[ // wet\n412.5, /* lost */ null]")?;
+/// for (one, other) in plain.nodes().zip(annotated.nodes()) {
+///     assert_eq!((one.number(), one.parent()), (other.number(), other.parent()));
+///     assert_eq!((one.kind(), one.decimal()), (other.kind(), other.decimal()));
+/// }
+/// assert_eq!((plain.len(), annotated.len()), (3, 3));
+/// # Ok::<(), duper::Refusal>(())
+/// ```
 #[derive(Debug, Clone, PartialEq, Eq)]
 pub struct Document {
     /// The text in use and nothing more; likewise the other two. Room for a

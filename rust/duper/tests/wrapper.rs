@@ -89,6 +89,34 @@ fn a_document() {
 }
 
 #[test]
+fn comments_touch_no_data() {
+    // "Each changed place is the old one plus the bytes inserted before the
+    // byte it names, and an end moves with the last byte of its span."
+    let plain = "T({a:I(\"x\"),b:+1})//e";
+    let annotated = "/***/\tT({a:I/*/*/(\"x\"//q/*\n), b:+1//é\r\n})/**///e";
+    let rows = |text: &str| Document::read(text).unwrap().table().to_vec();
+    let root = u32::MAX;
+    assert_eq!(
+        rows(plain),
+        [
+            [1, root, 0, 18, 0, 0, 0, 1, 3, 2, 0, 0],
+            [4, 0, 5, 11, 3, 4, 5, 6, 2, 7, 10, 1],
+            [6, 0, 14, 16, 12, 13, 0, 0, 3, 1, 0, 0],
+        ]
+        .concat()
+    );
+    assert_eq!(
+        rows(annotated),
+        [
+            [1, root, 6, 42, 0, 0, 6, 7, 3, 2, 0, 0],
+            [4, 0, 11, 28, 9, 10, 11, 12, 2, 18, 21, 1],
+            [6, 0, 32, 34, 30, 31, 0, 0, 3, 1, 0, 0],
+        ]
+        .concat()
+    );
+}
+
+#[test]
 fn nodes_of_another_document_do_no_harm() {
     let long = Document::read(br#"[{ "a long key": "a long string" }, [1, 2, 3]]"#).unwrap();
     let short = Document::read(b"[]").unwrap();
