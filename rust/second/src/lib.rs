@@ -1,5 +1,5 @@
-//! An independent second reader for Duper, written from documents 01 and 000
-//! alone.
+//! An independent second reader for Duper, written from documents 01, 02 and
+//! 000 alone.
 //!
 //! It is built unlike a reader that walks the bytes by recursive descent:
 //!
@@ -19,13 +19,15 @@
 //!
 //! Upon the reader stand corrections and undo: [`correct`] and [`undo`] over
 //! lent buffers, and [`book`], document 01's plain book, which has no buffers
-//! and works everything out anew from the corrections in force.
+//! and works everything out anew from the corrections in force. [`insertion`]
+//! is document 02's rule on what comments may do to a table.
 
 #![forbid(unsafe_code)]
 #![warn(missing_docs)]
 
 pub mod book;
 mod change;
+pub mod insertion;
 mod nodes;
 mod numbers;
 mod strings;
