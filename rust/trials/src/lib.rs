@@ -5,16 +5,20 @@
 //! the making of a case tells beforehand. [`histories`] makes lists of
 //! corrections and undos, with what the plain book says of them, [`single`]
 //! makes calls on any buffers, and [`editing`] holds both against the book and
-//! `second`. `against` compares both readers and their calls; it needs the
-//! feature of that name, on unless turned off, since it links the archive.
+//! `second`. [`annotated`] makes texts with spaces and comments to be inserted,
+//! and [`insertions`] holds a reader against what they may do to its table.
+//! `against` compares both readers and their calls; it needs the feature of
+//! that name, on unless turned off, since it links the archive.
 
 #![forbid(unsafe_code)]
 
 #[cfg(feature = "against")]
 pub mod against;
+pub mod annotated;
 pub mod check;
 pub mod editing;
 pub mod histories;
+pub mod insertions;
 pub mod random;
 pub mod single;
 pub mod texts;
