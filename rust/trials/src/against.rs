@@ -1,12 +1,13 @@
 //! The comparison: whole tables, numbers and places, and contents with the
 //! output buffers compared whole; corrections and undos with all buffers
-//! compared whole.
+//! compared whole; tables before and after insertions.
 
 use second::book::Call;
 
 use crate::check::{self, Answer, ContentCall};
 use crate::editing::{self, OnTrial, Seen};
 use crate::histories::{History, Lent};
+use crate::insertions;
 use crate::random::Random;
 use crate::texts::Case;
 
@@ -80,6 +81,12 @@ fn in_second(refusal: duper::Refusal) -> second::Refusal {
 /// and some single calls; the error tells the difference.
 pub fn edits(random: &mut Random, seen: &mut Seen) -> Result<(), String> {
     editing::trial(random, OnTrial { editor, history: a_document, single: one_call }, seen)
+}
+
+/// Holds `duper`'s tables of one text, without and with insertions, against
+/// `second`'s rule; the error tells the difference.
+pub fn annotated(random: &mut Random, seen: &mut insertions::Seen) -> Result<(), String> {
+    insertions::trial(random, duper_read, seen)
 }
 
 /// A document that may grow as far as buffers of these lengths let it.

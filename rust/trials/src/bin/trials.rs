@@ -1,15 +1,18 @@
-//! `trials --texts N --histories N --seed S`: holds `duper` against `second`
-//! on N texts, and on N histories of corrections and undos.
+//! `trials --texts N --histories N --insertions N --seed S`: holds `duper`
+//! against `second` on N texts, on N histories of corrections and undos, and on
+//! N texts with spaces and comments inserted.
 //!
-//! `--self` looks at `second` alone; `--case K` or `--history K` runs that text
-//! or history only. `--short` runs every text of up to two bytes, bare and in a
-//! few surroundings, in place of random ones.
+//! `--self` looks at `second` alone; `--case K`, `--history K` or
+//! `--insertion K` runs that text, history or text with insertions only.
+//! `--short` runs every text of up to two bytes, bare and in a few
+//! surroundings, in place of random ones.
 
 use std::ops::Range;
 use std::process::ExitCode;
 use std::time::{Duration, Instant, SystemTime};
 
 use trials::editing::{self, OnTrial, Seen};
+use trials::insertions;
 use trials::random::Random;
 use trials::texts;
 
@@ -17,17 +20,18 @@ use trials::texts;
 struct Options {
     texts: Range<u64>,
     histories: Range<u64>,
+    insertions: Range<u64>,
     seed: u64,
     alone: bool,
     short: bool,
 }
 
 const USAGE: &str = "trials [--self] [--seed S] [--short | --texts N | --case K] \
-                     [--histories N | --history K]";
+                     [--histories N | --history K] [--insertions N | --insertion K]";
 
 fn options() -> Result<Options, String> {
     let now = SystemTime::now().duration_since(SystemTime::UNIX_EPOCH).unwrap_or_default();
-    let (mut texts, mut histories) = (None, None);
+    let (mut texts, mut histories, mut insertions) = (None, None, None);
     let (mut seed, mut alone, mut short) = (now.as_nanos() as u64, false, false);
     let mut arguments = std::env::args().skip(1);
     while let Some(argument) = arguments.next() {
@@ -41,23 +45,27 @@ fn options() -> Result<Options, String> {
             "--case" => texts = Some(only(number()?)),
             "--histories" => histories = Some(0..number()?),
             "--history" => histories = Some(only(number()?)),
+            "--insertions" => insertions = Some(0..number()?),
+            "--insertion" => insertions = Some(only(number()?)),
             "--seed" => seed = number()?,
             "--self" => alone = true,
             "--short" => short = true,
             _ => return Err(format!("unknown argument {argument}\nusage: {USAGE}")),
         }
     }
+    if short && texts.is_none() {
+        texts = Some(0..texts::SHORT);
+    }
     // What isn't named isn't run, unless nothing is named.
-    let (texts, histories) = match (texts, histories) {
-        (None, histories) if short => (0..texts::SHORT, histories.unwrap_or(0..0)),
-        (None, None) => (0..100_000, 0..10_000),
-        (texts, histories) => (texts.unwrap_or(0..0), histories.unwrap_or(0..0)),
+    let [texts, histories, insertions] = match [texts, histories, insertions] {
+        [None, None, None] => [0..100_000, 0..10_000, 0..20_000],
+        named => named.map(|range| range.unwrap_or(0..0)),
     };
-    Ok(Options { texts, histories, seed, alone, short })
+    Ok(Options { texts, histories, insertions, seed, alone, short })
 }
 
 #[cfg(feature = "against")]
-use trials::against::{compare, edits};
+use trials::against::{annotated, compare, edits};
 
 /// Never called: `main` ends before.
 #[cfg(not(feature = "against"))]
@@ -68,6 +76,12 @@ fn compare(_: &texts::Case, _: &mut Random) -> Result<(), String> {
 /// Never called either.
 #[cfg(not(feature = "against"))]
 fn edits(_: &mut Random, _: &mut Seen) -> Result<(), String> {
+    Ok(())
+}
+
+/// Nor is this.
+#[cfg(not(feature = "against"))]
+fn annotated(_: &mut Random, _: &mut insertions::Seen) -> Result<(), String> {
     Ok(())
 }
 
@@ -166,6 +180,51 @@ fn run_histories(options: &Options) -> Result<(), String> {
     Ok(())
 }
 
+/// The texts with insertions. The error is what to print.
+fn run_insertions(options: &Options) -> Result<(), String> {
+    let seed = options.seed;
+    let total = options.insertions.end - options.insertions.start;
+    let mut progress = Progress::new();
+    let mut seen = insertions::Seen::default();
+    for number in options.insertions.clone() {
+        let random = &mut Random::for_case(seed.rotate_left(16), number);
+        let outcome = if options.alone {
+            insertions::trial(random, trials::check::second_read, &mut seen)
+        } else {
+            annotated(random, &mut seen)
+        };
+        outcome.map_err(|difference| {
+            format!(
+                "difference in insertion {number} of seed {seed}; again: \
+                 --seed {seed} --insertion {number}\n{difference}"
+            )
+        })?;
+        progress.tell(|| {
+            let insertions = seen.insertions();
+            format!("{} of {total} texts with {insertions} insertions", number + 1)
+        });
+    }
+    let [tabs, feeds, returns, blanks] = seen.spaces;
+    println!(
+        "{} texts with {} insertions, no difference in {} words, of which {} had moved, {:.1} s",
+        seen.texts,
+        seen.insertions(),
+        seen.words,
+        seen.moved,
+        progress.seconds()
+    );
+    println!(
+        "  inserted: 09: {tabs}, 0A: {feeds}, 0D: {returns}, 20: {blanks}, line comments: {}, \
+         block comments: {}; nothing: {} texts",
+        seen.line, seen.block, seen.bare
+    );
+    println!(
+        "  new texts of over 65,536 bytes: {}, of just that many: {}",
+        seen.over_long, seen.full
+    );
+    Ok(())
+}
+
 fn main() -> ExitCode {
     let options = match options() {
         Ok(options) => options,
@@ -185,6 +244,9 @@ fn main() -> ExitCode {
     }
     if outcome.is_ok() && !options.histories.is_empty() {
         outcome = run_histories(&options);
+    }
+    if outcome.is_ok() && !options.insertions.is_empty() {
+        outcome = run_insertions(&options);
     }
     match outcome {
         Ok(()) => ExitCode::SUCCESS,
