@@ -20,6 +20,8 @@ pub enum Gap {
     Space(u8),
     /// A line comment, by the bytes between its `//` and its line feed.
     Line(Vec<u8>),
+    /// The same with 0D before the line feed, as some editors end a line.
+    LineReturn(Vec<u8>),
     /// A block comment, by the bytes between its `/*` and its `*/`.
     Block(Vec<u8>),
 }
@@ -30,6 +32,7 @@ impl Gap {
         match self {
             Gap::Space(byte) => vec![*byte],
             Gap::Line(body) => [b"//", &body[..], b"\n"].concat(),
+            Gap::LineReturn(body) => [b"//", &body[..], b"\r\n"].concat(),
             Gap::Block(body) => [b"/*", &body[..], b"*/"].concat(),
         }
     }
@@ -37,15 +40,17 @@ impl Gap {
     /// Whether it is a space of the class, "space (09, 0A, 0D, 20)", or a
     /// whole UTF-8 comment.
     ///
-    /// A comment is whole if it ends where its bytes do. "`//` runs to before
-    /// the next 0A or 0D", so its body holds neither; "`/*` runs to the first
+    /// A comment is whole if it ends behind its body. "`//` runs to before the
+    /// next 0A or 0D", so its body holds neither; "`/*` runs to the first
     /// `*/` after it", so its body holds none. A body that only ends in `*`
     /// does no harm: the first `*/` is still the comment's own.
     pub fn is_allowed(&self) -> bool {
         let utf8 = |body| std::str::from_utf8(body).is_ok();
         match self {
             Gap::Space(byte) => matches!(byte, 0x09 | 0x0A | 0x0D | 0x20),
-            Gap::Line(body) => utf8(body) && !body.iter().any(|byte| matches!(byte, 0x0A | 0x0D)),
+            Gap::Line(body) | Gap::LineReturn(body) => {
+                utf8(body) && !body.iter().any(|byte| matches!(byte, 0x0A | 0x0D))
+            }
             Gap::Block(body) => utf8(body) && !body.windows(2).any(|two| two == b"*/"),
         }
     }

@@ -17,6 +17,10 @@ fn line(body: impl AsRef<[u8]>) -> Gap {
     Gap::Line(body.as_ref().to_vec())
 }
 
+fn line_return(body: impl AsRef<[u8]>) -> Gap {
+    Gap::LineReturn(body.as_ref().to_vec())
+}
+
 fn block(body: impl AsRef<[u8]>) -> Gap {
     Gap::Block(body.as_ref().to_vec())
 }
@@ -60,6 +64,7 @@ fn bytes_of_gaps() {
     assert_eq!(space(b'\t').bytes(), b"\t");
     assert_eq!(line("").bytes(), b"//\n");
     assert_eq!(line(" low bounce").bytes(), b"// low bounce\n");
+    assert_eq!(line_return(" low bounce").bytes(), b"// low bounce\r\n");
     assert_eq!(block("").bytes(), b"/**/");
     assert_eq!(block("*").bytes(), b"/***/");
     assert_eq!(block(" low bounce ").bytes(), b"/* low bounce */");
@@ -82,11 +87,13 @@ fn whole_comments() {
         "\u{7F}", "\\", "\t", "\u{B}", "\u{85}", "\u{2028}", "é", "😀",
     ] {
         assert!(line(body).is_allowed(), "{body:?}");
+        assert!(line_return(body).is_allowed(), "{body:?}");
         assert!(block(body).is_allowed(), "{body:?}");
     }
     // A line comment ends at any newline, a block comment at none.
     for body in ["\n", "\r", "\r\n", "x\r", "\rx", "a\nb"] {
         assert!(!line(body).is_allowed(), "{body:?}");
+        assert!(!line_return(body).is_allowed(), "{body:?}");
         assert!(block(body).is_allowed(), "{body:?}");
     }
     // A block comment ends at the first `*/`, a line comment doesn't.
@@ -99,6 +106,7 @@ fn whole_comments() {
     for body in [&b"\xFF"[..], b"\x80", b"\xC3", b"\xED\xA0\x80", b"\xC0\x80", b"\xF4\x90\x80\x80"]
     {
         assert!(!line(body).is_allowed(), "{body:?}");
+        assert!(!line_return(body).is_allowed(), "{body:?}");
         assert!(!block(body).is_allowed(), "{body:?}");
     }
 }
@@ -201,6 +209,8 @@ fn starts_move_with_what_is_put_right_before_and_ends_stay_with_what_is_put_righ
         (0, line("x"), "//x\n[1]", [4, 7], [5, 6]),
         (1, block("x"), "[/*x*/1]", [0, 8], [6, 7]),
         (2, line("x"), "[1//x\n]", [0, 7], [1, 2]),
+        (1, line_return("x"), "[//x\r\n1]", [0, 8], [6, 7]),
+        (2, line_return(""), "[1//\r\n]", [0, 7], [1, 2]),
         (3, block(""), "[1]/**/", [0, 3], [1, 2]),
     ] {
         holds(("[1]", &old), &[at(place, gap)], (text, &rows(root, item)));

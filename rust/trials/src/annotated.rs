@@ -130,6 +130,7 @@ fn gap(random: &mut Random, short: bool) -> Gap {
         3 | 4 if short => Gap::Block(Vec::new()),
         3 | 4 => comment(random, Gap::Block),
         _ if short => Gap::Line(Vec::new()),
+        _ if random.one_in(3) => comment(random, Gap::LineReturn),
         _ => comment(random, Gap::Line),
     }
 }

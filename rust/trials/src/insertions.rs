@@ -31,8 +31,10 @@ pub struct Seen {
     pub moved: u64,
     /// Insertions of spaces: 09, 0A, 0D and 20.
     pub spaces: [u64; 4],
-    /// Insertions of line comments.
+    /// Insertions of line comments that end in a line feed.
     pub line: u64,
+    /// Insertions of line comments that end in 0D and a line feed.
+    pub line_return: u64,
     /// Insertions of block comments.
     pub block: u64,
     /// Insertions at a place that an earlier one in the list has too.
@@ -48,7 +50,7 @@ pub struct Seen {
 impl Seen {
     /// All insertions.
     pub fn insertions(&self) -> u64 {
-        self.spaces.iter().sum::<u64>() + self.line + self.block
+        self.spaces.iter().sum::<u64>() + self.line + self.line_return + self.block
     }
 
     fn count_insertions(&mut self, insertions: &[Insertion]) {
@@ -60,6 +62,7 @@ impl Seen {
                 Gap::Space(0x0D) => self.spaces[2] += 1,
                 Gap::Space(_) => self.spaces[3] += 1,
                 Gap::Line(_) => self.line += 1,
+                Gap::LineReturn(_) => self.line_return += 1,
                 Gap::Block(_) => self.block += 1,
             }
             self.again += u64::from(!places.insert(place));
@@ -191,7 +194,9 @@ mod tests {
         println!("{seen:#?}");
         let Seen { texts, bare, over_long, full, words, moved, spaces, line, block, .. } = seen;
         assert_eq!(texts, 600);
-        let came_up = [bare, over_long, full, words, moved, line, block, seen.again];
+        let comments = [line, seen.line_return, block];
+        assert!(comments.iter().all(|&count| count > 0), "{seen:?}");
+        let came_up = [bare, over_long, full, words, moved, seen.again];
         assert!(came_up.iter().all(|&count| count > 0), "{seen:?}");
         assert!(spaces.iter().all(|&count| count > 0), "{seen:?}");
         // Every kind of node, and keys and names.

@@ -215,8 +215,8 @@ fn run_insertions(options: &Options) -> Result<(), String> {
     );
     println!(
         "  inserted: 09: {tabs}, 0A: {feeds}, 0D: {returns}, 20: {blanks}, line comments: {}, \
-         block comments: {}; nothing: {} texts",
-        seen.line, seen.block, seen.bare
+         with 0D before the line feed: {}, block comments: {}; nothing: {} texts",
+        seen.line, seen.line_return, seen.block, seen.bare
     );
     println!(
         "  new texts of over 65,536 bytes: {}, of just that many: {}",
