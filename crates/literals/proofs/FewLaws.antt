@@ -4,7 +4,7 @@ use mathlib.Core.Path.{_≡_}
 use Prim.Native.Nat.{ℕ, zero, suc, _+_, _≤_}
 use native.Mathlib.Omega.{arith}
 use mathlib.Core.List.{List, [], _∷_}
-use lib.Dec.{leb, ltb, eqb}
+use lib.Dec.{leb, ltb}
 use lib.ListN.{length}
 use Rattle.text.specs.Bytes.{feed}
 use Rattle.text.specs.declared.utf8.Utf8.{Utf8}
@@ -14,6 +14,7 @@ use Rattle.text.specs.declared.utf8.Few.the-variants.{Zero, One, Two, Three, Fo
 use Rattle.text.specs.Utf8.{lead, later, utf8Step, listed}
 use Rattle.text.specs.Internal.{bytesRead}
 use Rattle.text.proofs.Choice.{cond-both}
+use Rattle.text.proofs.Utf8Laws.{lead-case}
 
 pub few-short : (f : Few) → length (listed f) ≤ 4
 unfolding listed
@@ -28,19 +29,8 @@ abbrev Below : ℕ → Utf8 → Type 0
 Below m u = bytesRead u ≤ m
 
 lead-read : (n b : ℕ) → Below (n + 1) (lead n b)
-unfolding lead bytesRead
-lead-read n b =
-    cond-both (Below (n + 1)) (leb b 0x7F) (λ _. omega arith)
-    (λ _. cond-both (Below (n + 1)) (ltb b 0xC2) (λ _. omega arith)
-    (λ _. cond-both (Below (n + 1)) (leb b 0xDF) (λ _. omega arith)
-    (λ _. cond-both (Below (n + 1)) (eqb b 0xE0) (λ _. omega arith)
-    (λ _. cond-both (Below (n + 1)) (leb b 0xEC) (λ _. omega arith)
-    (λ _. cond-both (Below (n + 1)) (eqb b 0xED) (λ _. omega arith)
-    (λ _. cond-both (Below (n + 1)) (leb b 0xEF) (λ _. omega arith)
-    (λ _. cond-both (Below (n + 1)) (eqb b 0xF0) (λ _. omega arith)
-    (λ _. cond-both (Below (n + 1)) (leb b 0xF3) (λ _. omega arith)
-    (λ _. cond-both (Below (n + 1)) (eqb b 0xF4) (λ _. omega arith)
-    (λ _. omega arith))))))))))
+unfolding bytesRead
+lead-read n b = lead-case (Below (n + 1)) n b (omega arith) (omega arith) (λ more low high _. omega arith)
 
 later-read : (n read more : ℕ) → Below (n + read + 1) (later n read more)
 unfolding later bytesRead

@@ -4,5 +4,6 @@ pub mod Table
 pub mod ClassLaws
 pub mod FeedLaws
 pub mod Utf8Laws
+pub mod EightLaws
 pub mod Utf8Join
 pub mod SameLaws

@@ -14,6 +14,7 @@ use Rattle.text.specs.declared.utf8.Utf8.the-variants.{Whole, Part, Brok
 use Rattle.text.specs.Utf8.{lead, later, utf8Step, utf8, isWhole}
 use Rattle.text.proofs.Choice.{cond-both, cond-pair}
 use Rattle.text.proofs.FeedLaws.{feed-append, feed-stays}
+use Rattle.text.proofs.Utf8Laws.{lead-case}
 
 -- ---- an ASCII byte stands between characters
 
@@ -24,19 +25,8 @@ High (Part n read more low high) = 128 ≤ low
 High (Broken n) = Unit {0}
 
 lead-high : (n b : ℕ) → High (lead n b)
-unfolding High lead
-lead-high n b =
-    cond-both High (leb b 0x7F) (λ _. tt)
-    (λ _. cond-both High (ltb b 0xC2) (λ _. tt)
-    (λ _. cond-both High (leb b 0xDF) (λ _. omega arith)
-    (λ _. cond-both High (eqb b 0xE0) (λ _. omega arith)
-    (λ _. cond-both High (leb b 0xEC) (λ _. omega arith)
-    (λ _. cond-both High (eqb b 0xED) (λ _. omega arith)
-    (λ _. cond-both High (leb b 0xEF) (λ _. omega arith)
-    (λ _. cond-both High (eqb b 0xF0) (λ _. omega arith)
-    (λ _. cond-both High (leb b 0xF3) (λ _. omega arith)
-    (λ _. cond-both High (eqb b 0xF4) (λ _. omega arith)
-    (λ _. tt))))))))))
+unfolding High
+lead-high n b = lead-case High n b tt tt (λ more low high h. h)
 
 later-high : (n read more : ℕ) → High (later n read more)
 unfolding High later
@@ -125,7 +115,7 @@ same-whole st su e = whole st ∙ ap isWhole e ∙ sym (whole su)
     whole (Broken n) = refl
 
 -- after whole characters the machine goes on as from the start
-after-whole : (st : Utf8) (s : List ℕ) → isWhole st ≡ true → isWhole (feed utf8Step st s) ≡ isWhole (utf8 s)
+pub after-whole : (st : Utf8) (s : List ℕ) → isWhole st ≡ true → isWhole (feed utf8Step st s) ≡ isWhole (utf8 s)
 unfolding isWhole utf8 uncounted
 after-whole (Whole n) s e = same-whole (feed utf8Step (Whole n) s) (feed utf8Step (Whole 0) s) (feed-same (Whole n) s)
 after-whole (Part n read more low high) s e = absurd (false≢true e)

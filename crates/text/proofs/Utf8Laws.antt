@@ -1,5 +1,5 @@
--- UTF-8: how many bytes the machine has read, so that its counts cannot wrap, and that a text is UTF-8 exactly if its longest valid
--- front is the whole text.
+-- UTF-8: how many bytes the machine has read, so that its counts cannot wrap; that a text is UTF-8 exactly if its longest valid front is
+-- the whole text; and what one byte more does to that front.
 -- Assumes nothing.
 use mathlib.Core.Path.{_≡_, refl, ap}
 use Prim.Native.Nat.{ℕ, zero, suc, _+_, _-_, _<_, _≤_}
@@ -15,6 +15,23 @@ use Rattle.text.specs.declared.utf8.Utf8.the-variants.{Whole, Part, Brok
 use Rattle.text.specs.Utf8.{lead, later, utf8Step, utf8, isWhole, wholeFront}
 use Rattle.text.specs.Internal.{bytesRead}
 use Rattle.text.proofs.Choice.{cond-both}
+
+-- what holds of a whole character, of no character and of every begun one holds after a first byte
+pub lead-case : (P : Utf8 → Type 0) (n b : ℕ) → P (Whole (n + 1)) → P (Broken n)
+    → ((more low high : ℕ) → 128 ≤ low → P (Part n 1 more low high)) → P (lead n b)
+unfolding lead
+lead-case P n b whole broken part =
+    cond-both P (leb b 0x7F) (λ _. whole)
+    (λ _. cond-both P (ltb b 0xC2) (λ _. broken)
+    (λ _. cond-both P (leb b 0xDF) (λ _. part 0 0x80 0xBF (omega arith))
+    (λ _. cond-both P (eqb b 0xE0) (λ _. part 1 0xA0 0xBF (omega arith))
+    (λ _. cond-both P (leb b 0xEC) (λ _. part 1 0x80 0xBF (omega arith))
+    (λ _. cond-both P (eqb b 0xED) (λ _. part 1 0x80 0x9F (omega arith))
+    (λ _. cond-both P (leb b 0xEF) (λ _. part 1 0x80 0xBF (omega arith))
+    (λ _. cond-both P (eqb b 0xF0) (λ _. part 2 0x90 0xBF (omega arith))
+    (λ _. cond-both P (leb b 0xF3) (λ _. part 2 0x80 0xBF (omega arith))
+    (λ _. cond-both P (eqb b 0xF4) (λ _. part 2 0x80 0x8F (omega arith))
+    (λ _. broken))))))))))
 
 -- the two cases of `later`
 pub later-last : (n read more : ℕ) → more ≡ 0 → Whole (n + read + 1) ≡ later n read more
@@ -38,19 +55,8 @@ unfolding After
 after-start = refl
 
 lead-after : (n b : ℕ) → After (suc n) (lead n b)
-unfolding After lead
-lead-after n b =
-    cond-both (After (suc n)) (leb b 0x7F) (λ _. omega arith)
-    (λ _. cond-both (After (suc n)) (ltb b 0xC2) (λ _. omega arith)
-    (λ _. cond-both (After (suc n)) (leb b 0xDF) (λ _. omega arith)
-    (λ _. cond-both (After (suc n)) (eqb b 0xE0) (λ _. omega arith)
-    (λ _. cond-both (After (suc n)) (leb b 0xEC) (λ _. omega arith)
-    (λ _. cond-both (After (suc n)) (eqb b 0xED) (λ _. omega arith)
-    (λ _. cond-both (After (suc n)) (leb b 0xEF) (λ _. omega arith)
-    (λ _. cond-both (After (suc n)) (eqb b 0xF0) (λ _. omega arith)
-    (λ _. cond-both (After (suc n)) (leb b 0xF3) (λ _. omega arith)
-    (λ _. cond-both (After (suc n)) (eqb b 0xF4) (λ _. omega arith)
-    (λ _. omega arith))))))))))
+unfolding After
+lead-after n b = lead-case (After (suc n)) n b (omega arith) (omega arith) (λ more low high _. omega arith)
 
 later-after : (k n read more : ℕ) → n < k → n + read ≡ k → After (suc k) (later n read more)
 unfolding After later
@@ -104,3 +110,27 @@ utf8-whole s e = front-whole (length s) (utf8 s) (utf8-after s) e
 
 pub utf8-less : (s : List ℕ) → isWhole (utf8 s) ≡ false → wholeFront (utf8 s) < length s
 utf8-less s e = front-less (length s) (utf8 s) (utf8-after s) e
+
+-- ---- a byte more: the front stays, or all that was read is whole
+
+-- where the machine may stand after a byte that it read with a front of n bytes
+unfoldable pub Keeps : ℕ → Utf8 → Type 0
+Keeps n (Whole m) = n < m
+Keeps n (Part m read more low high) = m ≡ n
+Keeps n (Broken m) = m ≡ n
+
+pub lead-keeps : (n b : ℕ) → Keeps n (lead n b)
+unfolding Keeps
+lead-keeps n b = lead-case (Keeps n) n b (omega arith) refl (λ more low high _. refl)
+
+later-keeps : (n read more : ℕ) → Keeps n (later n read more)
+unfolding Keeps later
+later-keeps n read zero = omega arith
+later-keeps n read (suc more) = refl
+
+pub step-keeps : (u : Utf8) (b : ℕ) → Keeps (wholeFront u) (utf8Step u b)
+unfolding Keeps utf8Step wholeFront
+step-keeps (Whole n) b = lead-keeps n b
+step-keeps (Part n read more low high) b =
+    cond-both (Keeps n) (ltb b low) (λ _. refl) (λ _. cond-both (Keeps n) (leb b high) (λ _. later-keeps n read more) (λ _. refl))
+step-keeps (Broken n) b = refl

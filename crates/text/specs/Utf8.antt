@@ -1,8 +1,9 @@
--- UTF-8 by RFC 3629, section 4, as a machine: "no surrogates, no overlong forms, nothing above U+10FFFF".
+-- UTF-8 by RFC 3629, section 4, as a machine: "no surrogates, no overlong forms, nothing above U+10FFFF"; and Req 06, "Eight plain bytes
+-- at a time".
 -- The machine's states are the code's own enum, src/utf8.rt.
 -- Assumes nothing.
 use Prim.Native.Nat.{ℕ, zero, suc, _+_, _/_, _%_}
-use mathlib.Core.Bool.{Bool, true, false, cond, _||_}
+use mathlib.Core.Bool.{Bool, true, false, cond, _&&_, _||_}
 use mathlib.Core.List.{List, [], _∷_}
 use lib.Dec.{leb, ltb, eqb}
 use Rattle.text.specs.Bytes.{feed, within}
@@ -47,7 +48,7 @@ isWhole (Whole n) = true
 isWhole (Part n read more low high) = false
 isWhole (Broken n) = false
 
--- "length of the longest valid front"
+-- "length of the longest valid front": that it is just that is `LongestFront` in theorems/specs/Utf8.antt
 unfoldable pub wholeFront : Utf8 → ℕ
 wholeFront (Whole n) = n
 wholeFront (Part n read more low high) = n
@@ -56,6 +57,36 @@ wholeFront (Broken n) = n
 -- "UTF-8 (RFC 3629: no surrogates, no overlong forms, nothing above U+10FFFF)"
 unfoldable pub isUtf8 : List ℕ → Bool
 isUtf8 s = isWhole (utf8 s)
+
+-- ---- eight plain bytes at a time (document 02, Req 06)
+
+-- the first k bytes are there, and they are "all below 80 hex"
+unfoldable pub plain : (k : ℕ) → List ℕ → Bool
+plain zero s = true
+plain (suc k) [] = false
+plain (suc k) (b ∷ s) = ltb b 0x80 && plain k s
+
+-- "the next eight bytes are all below 80 hex"
+unfoldable pub plainEight : List ℕ → Bool
+plainEight s = plain 8 s
+
+-- "Wherever the UTF-8 check stands at a character's start and the next eight bytes are all below 80 hex"
+unfoldable pub eightHere : Utf8 → List ℕ → Bool
+eightHere u s = isWhole u && plainEight s
+
+-- "it shall pass over them in one step, else over one character": the number of eights from here on. The first `left` bytes belong to an
+-- eight that is counted already, and none begins there. Then, if an eight begins here, it counts one, and its other seven bytes are `left`;
+-- if not, it goes on by one byte. Inside a character and after a fault the machine is not whole, so no eight begins there.
+unfoldable pub eights : (left : ℕ) → Utf8 → List ℕ → ℕ
+eights left u [] = 0
+eights (suc left) u (b ∷ s) = eights left (utf8Step u b) s
+eights zero u (b ∷ s) = let here = eightHere u (b ∷ s) in cond here 1 0 + eights (cond here 7 0) (utf8Step u b) s
+
+-- "the exact number of such eights up to where it stops"
+unfoldable pub plainEights : List ℕ → ℕ
+plainEights s = eights 0 (Whole 0) s
+
+-- ---- the bytes of a character
 
 -- "scalar values": 0 to U+D7FF, and U+E000 to U+10FFFF
 unfoldable pub isScalar : ℕ → Bool

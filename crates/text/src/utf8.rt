@@ -1,8 +1,9 @@
-// UTF-8 by RFC 3629: a machine fed byte by byte, the length of the longest valid front, and the bytes of a scalar value.
+// UTF-8 by RFC 3629: a machine fed byte by byte, the check of a slice, and the bytes of a scalar value.
 ghost use mathlib.Core.Path.{_≡_};
-ghost use Prim.Native.Nat.{_<_, _+_};
-ghost use Rattle.text.specs.Utf8.{lead, later, utf8Step, utf8, wholeFront, encode};
-ghost use Rattle.text.specs.Internal.{bytesRead};
+ghost use Prim.Native.Nat.{_<_, _≤_, _+_};
+ghost use lib.ListN.{length, drop, getD};
+ghost use Rattle.text.specs.Utf8.{lead, later, utf8Step, utf8, wholeFront, plainEight, plainEights, encode};
+ghost use Rattle.text.specs.Internal.{bytesRead, isPart, characterEnd};
 
 // Where the machine stands. Whole(n): n bytes, all of whole characters. Part: n bytes of whole characters, then `read` bytes of
 // a begun one; its next byte lies in low..high, and `more` bytes follow that. Broken(n): what follows the first n bytes is no
@@ -139,17 +140,85 @@ fn front_of(u: Utf8) -> usize
     }
 }
 
+// Whether the machine is inside a character.
+fn is_part(u: Utf8) -> bool
+    ensures { λ r. ⌜ r ≡ isPart u ⌝ }
+{
+    match u {
+        Utf8::Whole(_) => false,
+        Utf8::Part {
+            n: _,
+            read: _,
+            more: _,
+            low: _,
+            high: _,
+        } => true,
+        Utf8::Broken(_) => false,
+    }
+}
+
+// Where the character that begins at i ends, or i if no whole character stands there.
+fn character_end(s: &[u8], i: usize) -> usize
+    requires { ⌜ i < length (now s) ⌝ }
+    ensures { λ r. ⌜ r ≡ characterEnd (lead i (getD (now (s .entry)) i 0)) (drop (i + 1) (now (s .entry))) ⌝ }
+{
+    let mut u = first_byte(i, s[i]);
+    let mut j = i + 1;
+    while j < s.len() {
+        if !is_part(u) {
+            return front_of(u);
+        }
+        u = utf8_step(u, s[j]);
+        j += 1;
+    }
+    front_of(u)
+}
+
+// Whether eight bytes stand at i that are all below 80 hex: exactly then the eight or-ed together are, so that one comparison tells.
+fn plain_eight(s: &[u8], i: usize) -> bool
+    requires { ⌜ i ≤ length (now s) ⌝ }
+    ensures { λ r. ⌜ r ≡ plainEight (drop i (now (s .entry))) ⌝ }
+{
+    if s.len() - i < 8 {
+        return false;
+    }
+    let all = s[i] | s[i + 1] | s[i + 2] | s[i + 3] | s[i + 4] | s[i + 5] | s[i + 6] | s[i + 7];
+    all < 0x80
+}
+
+// What the check of a slice tells: the length of its longest front that is UTF-8, and how many eights of plain bytes it passed over.
+pub struct Checked {
+    pub front: usize,
+    pub eights: usize,
+}
+
+// The UTF-8 check. At a character's start it passes over eight bytes in one step if all are below 80 hex, else over one character; it
+// stops where no whole character stands.
+pub fn check_utf8(s: &[u8]) -> Checked
+    ensures { λ r. ⌜ (r .front ≡ wholeFront (utf8 (now (s .entry)))) × (r .eights ≡ plainEights (now (s .entry))) ⌝ }
+{
+    let mut i = 0;
+    let mut eights = 0;
+    while i < s.len() {
+        if plain_eight(s, i) {
+            i += 8;
+            eights += 1;
+        } else {
+            let end = character_end(s, i);
+            if end == i {
+                return Checked { front: i, eights };
+            }
+            i = end;
+        }
+    }
+    Checked { front: i, eights }
+}
+
 // The length of the longest front of a slice that is UTF-8: the slice's own where all of it is.
 pub fn valid_front(s: &[u8]) -> usize
     ensures { λ r. ⌜ r ≡ wholeFront (utf8 (now (s .entry))) ⌝ }
 {
-    let mut u = Utf8::Whole(0);
-    let mut i = 0;
-    while i < s.len() {
-        u = utf8_step(u, s[i]);
-        i += 1;
-    }
-    front_of(u)
+    check_utf8(s).front
 }
 
 // A byte from a number that is below 256.
