@@ -1,7 +1,9 @@
 // The calls for C and Rust: each answers one 64-bit number. A slice crosses as its pointer and its count of elements.
 ghost use mathlib.Core.Path.{_≡_};
+ghost use mathlib.Core.List.{[], _∷_};
 ghost use lib.ListN.{length};
 ghost use Rattle.text.specs.Switches.{presentEdition};
+ghost use Rattle.text.specs.Utf8.{utf8, wholeFront, plainEights};
 ghost use Rattle.reader.specs.Reading.{reading, tableOf};
 ghost use Rattle.reader.specs.Content.{contentCall, written, contentNumber};
 ghost use Rattle.editor.specs.Edit.{lentOf, correct, undo};
@@ -11,6 +13,18 @@ use editor::edit::Change;
 use editor::edit::Verdict;
 use reader::content::Given;
 use reader::read::Reading;
+use text::utf8::check_utf8;
+
+// Checks bytes as UTF-8: the length of their longest front that is. `eights` is then how many times the check passed over eight bytes below
+// 80 hex in one step.
+#[no_mangle]
+pub extern "C" fn duper_utf8(text: &[u8], eights: &mut [u64; 1]) -> u64
+    ensures { λ r. ⌜ (r ≡ wholeFront (utf8 (now (text .entry)))) × (now (eights .exit) ≡ plainEights (now (text .entry)) ∷ []) ⌝ }
+{
+    let checked = check_utf8(text);
+    *eights = [checked.eights as u64];
+    checked.front as u64
+}
 
 // Reads a text of the present edition into the table: the node count, or else the refusal times 4294967296 plus its place.
 #[no_mangle]
