@@ -1,4 +1,5 @@
 -- What is claimed of the definitions and of the calls by their contracts, beside the sentences that ask for it.
+pub mod Utf8
 pub mod Insertion
 pub mod Nesting
 pub mod Calls
