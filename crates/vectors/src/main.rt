@@ -1,8 +1,8 @@
 // Runs the papers' lexical cases: each line of standard input is a case, and each gives a line of output, held to `stdout`.
 //
 // A case is a letter, a space and a text, in which `~HH` stands for the byte HH. `t`: the tokens of the text, each with its
-// value and places, up to the end or the first fault. `u`: the length of the longest front that is UTF-8. `k`: whether the
-// first two tokens are keys with the same content.
+// value and places, up to the end or the first fault. `u`: the length of the longest front that is UTF-8, and how many eights of
+// plain bytes the check passed over. `k`: whether the first two tokens are keys with the same content.
 ghost use Prim.Native.Nat.{_<_};
 
 mod keys;
@@ -67,7 +67,8 @@ fn run(line: &[u8]) {
         return;
     }
     if mode == b'u' {
-        show::front(text::utf8::valid_front(&space[..n]));
+        let checked = text::utf8::check_utf8(&space[..n]);
+        show::front(checked.front, checked.eights);
         return;
     }
     keys::compare(&space[..n]);

@@ -7,9 +7,11 @@ pub fn line(s: &[u8]) {
     io::write_all(STDOUT_FILENO, b"\n");
 }
 
-pub fn front(n: usize) {
+pub fn front(n: usize, eights: usize) {
     io::write_all(STDOUT_FILENO, b"front ");
     io::print_decimal(STDOUT_FILENO, n as u64);
+    io::write_all(STDOUT_FILENO, b" eights ");
+    io::print_decimal(STDOUT_FILENO, eights as u64);
     io::write_all(STDOUT_FILENO, b"\n");
 }
 

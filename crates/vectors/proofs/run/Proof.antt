@@ -6,7 +6,7 @@ use Rattle.vectors.proofs.run.Statement.{statement}
 use Rattle.vectors.proofs.run.Tie as tie
 use Rattle.vectors.proofs.run.Reads as reads
 use Rattle.vectors.proofs.run.Lts as lts
-use Rattle.text.proofs.utf8.valid_front.Reads as valid-front-reads
+use Rattle.text.proofs.utf8.check_utf8.Reads as check-utf8-reads
 use Rattle.vectors.proofs.keys.compare.Reads as compare-reads
 use Rattle.vectors.proofs.plain.Reads as plain-reads
 use Rattle.vectors.proofs.show.front.Reads as front-reads
@@ -58,11 +58,11 @@ returns-3 c = search needs
 array-share-prefix-space-2 : tie.Need-array-share-prefix-space-2
 array-share-prefix-space-2 c = omega arith
 
-slice-aggregate-valid-front : tie.Need-slice-aggregate-valid-front
-slice-aggregate-valid-front c = sym (length-take-le _ _ (omega arith))
+slice-aggregate-check-utf8 : tie.Need-slice-aggregate-check-utf8
+slice-aggregate-check-utf8 c = sym (length-take-le _ _ (omega arith))
 
-valid-front-requires : tie.Need-valid-front-requires
-valid-front-requires c κs = search needs
+check-utf8-requires : tie.Need-check-utf8-requires
+check-utf8-requires c κs = search needs
 
 front-requires : tie.Need-front-requires
 front-requires c κs = search needs
@@ -101,8 +101,8 @@ run-spec =
     tokens-requires
     returns-3
     array-share-prefix-space-2
-    slice-aggregate-valid-front
-    valid-front-requires
+    slice-aggregate-check-utf8
+    check-utf8-requires
     front-requires
     returns-4
     array-share-prefix-space-3
