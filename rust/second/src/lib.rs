@@ -20,7 +20,8 @@
 //! Upon the reader stand corrections and undo: [`correct`] and [`undo`] over
 //! lent buffers, and [`book`], document 01's plain book, which has no buffers
 //! and works everything out anew from the corrections in force. [`insertion`]
-//! is document 02's rule on what comments may do to a table.
+//! is document 02's rule on what comments may do to a table, and [`utf8`] its
+//! check that passes over eight plain bytes at a time.
 
 #![forbid(unsafe_code)]
 #![warn(missing_docs)]
@@ -32,6 +33,7 @@ mod nodes;
 mod numbers;
 mod strings;
 mod tokens;
+pub mod utf8;
 
 #[cfg(test)]
 mod tests;
