@@ -1,17 +1,18 @@
 /*
- * The Duper reader, the content call, corrections and undo, from the archive
- * libduper.a.
+ * The Duper reader, the content call, corrections and undo, and the reader's
+ * UTF-8 check, from the archive libduper.a.
  *
  * Every call may be given any bytes, any lengths and any numbers: none of
  * them needs to be checked before. What the caller must see to:
  *   - each pointer points to as many elements as the length after it says,
- *     and answer to three;
+ *     answer to three, and eights to one;
  *   - the pointer of an empty slice may be any pointer that is not null and is
  *     aligned for its element (to 4 bytes for the table);
  *   - a buffer that a call writes to must not overlap any other that the same
  *     call is given.
- *   - the thread has stack enough: 64 KiB for a reading or a content, 128 KiB
- *     for an undo, 256 KiB for a correction, beside the caller's own.
+ *   - the thread has stack enough: 64 KiB for a reading, a content or a UTF-8
+ *     check, 128 KiB for an undo, 256 KiB for a correction, beside the caller's
+ *     own.
  * Nothing is kept between calls, and no memory is taken from the heap. The
  * archive is for x86-64 Linux.
  *
@@ -145,6 +146,21 @@ uint64_t duper_undo(uint8_t *text, size_t text_len, size_t used,
                     uint8_t *journal, size_t journal_len, size_t kept,
                     uint32_t *table, size_t table_len,
                     uint64_t answer[3]);
+
+/*
+ * Checks bytes as UTF-8 (RFC 3629: no surrogates, no overlong forms, nothing
+ * above U+10FFFF), as a reading does before it looks for tokens. Any number of
+ * bytes may be handed in; 65,536 is no limit here. Wherever the check stands at
+ * a character's start and the next eight bytes are all below 80 hex, it passes
+ * over these eight in one step, else over one character.
+ *
+ * Answers the length of the longest front that is UTF-8: text_len, if all of
+ * the text is. A character that the end cuts off is no part of the front.
+ * Nothing is refused.
+ *
+ * eights[0] is the number of eights passed over up to where the front ends.
+ */
+uint64_t duper_utf8(const uint8_t *text, size_t text_len, uint64_t eights[1]);
 
 #ifdef __cplusplus
 }

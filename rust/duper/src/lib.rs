@@ -1,10 +1,11 @@
 //! A safe wrapper over the Duper reader, which comes as a C archive.
 //!
-//! Four functions are the archive's own: [`read`] fills a lent table of nodes,
+//! Five functions are the archive's own: [`read`] fills a lent table of nodes,
 //! twelve words each; [`content`] writes the content of a string or key;
 //! [`correct`] replaces a value in a lent text and notes in a lent journal what
-//! stood there; [`undo`] takes that back. [`Document`] does the lending: it
-//! owns a text, its table and its journal, and lists the nodes.
+//! stood there; [`undo`] takes that back; [`utf8`](utf8()) is the reader's check
+//! of UTF-8 by itself. [`Document`] does the lending: it owns a text, its table
+//! and its journal, and lists the nodes.
 //!
 //! Any bytes may be handed in. Each call answers or gives a [`Refusal`]; none
 //! panics and nothing has to be checked first. A thread needs stack enough, as
@@ -31,11 +32,13 @@ mod document;
 mod node;
 mod refusal;
 mod sys;
+mod utf8;
 
 pub use change::{correct, undo, Answer};
 pub use document::{Children, Document, Limits, Members};
 pub use node::{nodes, Decimal, Kind, Node, Nodes, Value};
 pub use refusal::{Reason, Refusal};
+pub use utf8::{utf8, Utf8Check};
 
 /// Words of the table for each node.
 pub const ROW: usize = 12;

@@ -1,6 +1,6 @@
 //! The boundary to the archive. All that is unsafe in this crate is here.
 
-use crate::{Answer, Refusal};
+use crate::{Answer, Refusal, Utf8Check};
 
 extern "C" {
     /// Answers the node count, or refusal times 4294967296 plus place.
@@ -46,6 +46,10 @@ extern "C" {
         table_len: usize,
         answer: *mut [u64; 3],
     ) -> u64;
+
+    /// Answers the length of the longest front that is UTF-8; and in `eights`
+    /// the number of eights in it.
+    fn duper_utf8(text: *const u8, text_len: usize, eights: *mut [u64; 1]) -> u64;
 }
 
 pub(crate) fn read(text: &[u8], table: &mut [u32]) -> Result<usize, Refusal> {
@@ -136,4 +140,15 @@ pub(crate) fn undo(
         )
     };
     Answer::new(answer, counts)
+}
+
+pub(crate) fn utf8(bytes: &[u8]) -> Utf8Check {
+    let mut eights = [0];
+    // SAFETY: the one pointer comes from a live slice, with that slice's own
+    // length, the other from the array of one; they are aligned and, for an
+    // empty slice too, not null. The bytes are only read. The array is borrowed
+    // mutably for this call alone, so the two can't overlap. Neither pointer is
+    // kept.
+    let front = unsafe { duper_utf8(bytes.as_ptr(), bytes.len(), &mut eights) };
+    Utf8Check::new(front, eights)
 }

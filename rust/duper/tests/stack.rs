@@ -51,6 +51,17 @@ fn a_content_needs_64_kib() {
 }
 
 #[test]
+fn a_utf8_check_needs_64_kib() {
+    // Each round is one eight and one character of two bytes. However many
+    // there are, the stack must not grow with them.
+    let bytes = "12345678é".repeat(200_000).into_bytes();
+    with_stack(64, move || {
+        let check = duper::utf8(&bytes);
+        assert_eq!((check.front, check.eights), (2_000_000, 200_000));
+    });
+}
+
+#[test]
 fn a_correction_needs_256_kib_and_an_undo_128() {
     let text = deepest();
     let used = text.len();

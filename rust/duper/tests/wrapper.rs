@@ -1,7 +1,7 @@
 //! The wrapper over the real archive: document 01's examples and the edges of
 //! the boundary.
 
-use duper::{content, nodes, read, Decimal, Document, Kind, Refusal, Value, ROW};
+use duper::{content, nodes, read, utf8, Decimal, Document, Kind, Refusal, Utf8Check, Value, ROW};
 
 fn refusal(number: u32, place: u32) -> Refusal {
     Refusal { number, place }
@@ -42,6 +42,7 @@ fn empty_slices_are_fine() {
     assert_eq!(content(b"", 0, 0, &mut []), Err(refusal(19, 0)));
     assert_eq!(content(b"\"\"", 0, 2, &mut []), Ok(0));
     assert_eq!(content(b"\"a\"", 0, 3, &mut []), Err(refusal(20, 0)));
+    assert_eq!(utf8(&[]), Utf8Check { front: 0, eights: 0 });
 }
 
 #[test]
@@ -56,6 +57,47 @@ fn contents() {
     }
     assert_eq!(content(br#"b64"ZHVwZXI""#, 0, 12, &mut out[..4]), Err(refusal(20, 0)));
     assert_eq!(&out, b"duper\x07");
+}
+
+#[test]
+fn utf8_of_any_bytes() {
+    // "Wherever the UTF-8 check stands at a character's start and the next
+    // eight bytes are all below 80 hex, it shall pass over them in one step,
+    // else over one character."
+    for (bytes, front, eights) in [
+        (&b"1234567"[..], 7, 0),
+        (b"12345678", 8, 1),
+        (b"123456789", 9, 1),
+        ("é12345678".as_bytes(), 10, 1),
+        ("1234567é12345678".as_bytes(), 17, 1),
+        ("1234é5678".as_bytes(), 10, 0),
+        (&[0x00, 0x7F, 0x00, 0x7F, 0x00, 0x7F, 0x00, 0x7F], 8, 1),
+        (b"12345678\x80", 8, 1),
+        (b"1234567\x8012345678", 7, 0),
+        (b"12345678\xE212345678", 8, 1),
+        (b"1234567812345678\xF0\x9F\x98", 16, 2),
+        (b"\xED\x9F\xBF12345678\xED\xA0\x80", 11, 1),
+        (b"\xF4\x8F\xBF\xBF\xF4\x90\x80\x80", 4, 0),
+        (b"\xC1\xBF", 0, 0),
+        (b"\xFF12345678", 0, 0),
+    ] {
+        assert_eq!(utf8(bytes), Utf8Check { front, eights }, "{}", bytes.escape_ascii());
+    }
+    // A text that is refused with 2 is refused where the front ends.
+    assert_eq!(read(b"[\"12345678\xC3\"]", &mut []), Err(refusal(2, 10)));
+    assert_eq!(utf8(b"[\"12345678\xC3\"]"), Utf8Check { front: 10, eights: 1 });
+}
+
+#[test]
+fn utf8_of_more_bytes_than_a_text_may_have() {
+    let mut bytes = vec![b' '; 65_537];
+    assert_eq!(utf8(&bytes), Utf8Check { front: 65_537, eights: 8_192 });
+    // 65,537 spaces are 8,192 eights and one character; then é and two eights.
+    bytes.extend_from_slice("é1234567812345678".as_bytes());
+    assert_eq!(utf8(&bytes), Utf8Check { front: 65_555, eights: 8_194 });
+    bytes.extend_from_slice(b"\xFF12345678");
+    assert_eq!(utf8(&bytes), Utf8Check { front: 65_555, eights: 8_194 });
+    assert_eq!(utf8("é".repeat(100_000).as_bytes()), Utf8Check { front: 200_000, eights: 0 });
 }
 
 #[test]
