@@ -7,16 +7,19 @@
 //! makes calls on any buffers, and [`editing`] holds both against the book and
 //! `second`. [`annotated`] makes texts with spaces and comments to be inserted,
 //! and [`insertions`] holds a reader against what they may do to its table.
-//! `against` compares both readers and their calls; it needs the feature of
-//! that name, on unless turned off, since it links the archive.
+//! [`bytes`] makes any bytes, and [`eights`] holds the UTF-8 check against
+//! `second`'s on them. `against` compares both readers and their calls; it needs
+//! the feature of that name, on unless turned off, since it links the archive.
 
 #![forbid(unsafe_code)]
 
 #[cfg(feature = "against")]
 pub mod against;
 pub mod annotated;
+pub mod bytes;
 pub mod check;
 pub mod editing;
+pub mod eights;
 pub mod histories;
 pub mod insertions;
 pub mod random;
