@@ -1,11 +1,14 @@
 //! The comparison: whole tables, numbers and places, and contents with the
 //! output buffers compared whole; corrections and undos with all buffers
-//! compared whole; tables before and after insertions.
+//! compared whole; tables before and after insertions; both numbers of the UTF-8
+//! check.
 
 use second::book::Call;
+use second::utf8::Checked;
 
 use crate::check::{self, Answer, ContentCall};
 use crate::editing::{self, OnTrial, Seen};
+use crate::eights;
 use crate::histories::{History, Lent};
 use crate::insertions;
 use crate::random::Random;
@@ -87,6 +90,18 @@ pub fn edits(random: &mut Random, seen: &mut Seen) -> Result<(), String> {
 /// `second`'s rule; the error tells the difference.
 pub fn annotated(random: &mut Random, seen: &mut insertions::Seen) -> Result<(), String> {
     insertions::trial(random, duper_read, seen)
+}
+
+/// `duper`'s UTF-8 check in `second`'s terms.
+fn duper_utf8(bytes: &[u8]) -> Checked {
+    let duper::Utf8Check { front, eights } = duper::utf8(bytes);
+    Checked { front, eights }
+}
+
+/// Holds `duper`'s UTF-8 check against `second`'s; the error tells the
+/// difference.
+pub fn checked(bytes: &[u8], seen: &mut eights::Seen) -> Result<(), String> {
+    eights::trial(bytes, duper_utf8, seen)
 }
 
 /// A document that may grow as far as buffers of these lengths let it.

@@ -1,17 +1,19 @@
-//! `trials --texts N --histories N --insertions N --seed S`: holds `duper`
-//! against `second` on N texts, on N histories of corrections and undos, and on
-//! N texts with spaces and comments inserted.
+//! `trials --texts N --histories N --insertions N --checks N --seed S`: holds
+//! `duper` against `second` on N texts, on N histories of corrections and undos,
+//! on N texts with spaces and comments inserted, and in N UTF-8 checks.
 //!
-//! `--self` looks at `second` alone; `--case K`, `--history K` or
-//! `--insertion K` runs that text, history or text with insertions only.
-//! `--short` runs every text of up to two bytes, bare and in a few
+//! `--self` looks at `second` alone; `--case K`, `--history K`, `--insertion K`
+//! or `--check K` runs that text, history, text with insertions or UTF-8 check
+//! only. `--short` runs every text of up to two bytes, bare and in a few
 //! surroundings, in place of random ones.
 
 use std::ops::Range;
 use std::process::ExitCode;
 use std::time::{Duration, Instant, SystemTime};
 
+use trials::bytes;
 use trials::editing::{self, OnTrial, Seen};
+use trials::eights;
 use trials::insertions;
 use trials::random::Random;
 use trials::texts;
@@ -21,17 +23,19 @@ struct Options {
     texts: Range<u64>,
     histories: Range<u64>,
     insertions: Range<u64>,
+    checks: Range<u64>,
     seed: u64,
     alone: bool,
     short: bool,
 }
 
 const USAGE: &str = "trials [--self] [--seed S] [--short | --texts N | --case K] \
-                     [--histories N | --history K] [--insertions N | --insertion K]";
+                     [--histories N | --history K] [--insertions N | --insertion K] \
+                     [--checks N | --check K]";
 
 fn options() -> Result<Options, String> {
     let now = SystemTime::now().duration_since(SystemTime::UNIX_EPOCH).unwrap_or_default();
-    let (mut texts, mut histories, mut insertions) = (None, None, None);
+    let (mut texts, mut histories, mut insertions, mut checks) = (None, None, None, None);
     let (mut seed, mut alone, mut short) = (now.as_nanos() as u64, false, false);
     let mut arguments = std::env::args().skip(1);
     while let Some(argument) = arguments.next() {
@@ -47,6 +51,8 @@ fn options() -> Result<Options, String> {
             "--history" => histories = Some(only(number()?)),
             "--insertions" => insertions = Some(0..number()?),
             "--insertion" => insertions = Some(only(number()?)),
+            "--checks" => checks = Some(0..number()?),
+            "--check" => checks = Some(only(number()?)),
             "--seed" => seed = number()?,
             "--self" => alone = true,
             "--short" => short = true,
@@ -57,15 +63,15 @@ fn options() -> Result<Options, String> {
         texts = Some(0..texts::SHORT);
     }
     // What isn't named isn't run, unless nothing is named.
-    let [texts, histories, insertions] = match [texts, histories, insertions] {
-        [None, None, None] => [0..100_000, 0..10_000, 0..20_000],
+    let [texts, histories, insertions, checks] = match [texts, histories, insertions, checks] {
+        [None, None, None, None] => [0..100_000, 0..10_000, 0..20_000, 0..200_000],
         named => named.map(|range| range.unwrap_or(0..0)),
     };
-    Ok(Options { texts, histories, insertions, seed, alone, short })
+    Ok(Options { texts, histories, insertions, checks, seed, alone, short })
 }
 
 #[cfg(feature = "against")]
-use trials::against::{annotated, compare, edits};
+use trials::against::{annotated, checked, compare, edits};
 
 /// Never called: `main` ends before.
 #[cfg(not(feature = "against"))]
@@ -82,6 +88,12 @@ fn edits(_: &mut Random, _: &mut Seen) -> Result<(), String> {
 /// Nor is this.
 #[cfg(not(feature = "against"))]
 fn annotated(_: &mut Random, _: &mut insertions::Seen) -> Result<(), String> {
+    Ok(())
+}
+
+/// Nor this.
+#[cfg(not(feature = "against"))]
+fn checked(_: &[u8], _: &mut eights::Seen) -> Result<(), String> {
     Ok(())
 }
 
@@ -225,6 +237,40 @@ fn run_insertions(options: &Options) -> Result<(), String> {
     Ok(())
 }
 
+/// The UTF-8 checks. The error is what to print.
+fn run_checks(options: &Options) -> Result<(), String> {
+    let seed = options.seed;
+    let total = options.checks.end - options.checks.start;
+    let mut progress = Progress::new();
+    let mut seen = eights::Seen::default();
+    for number in options.checks.clone() {
+        let bytes = bytes::case(seed.rotate_left(48), number);
+        let outcome = if options.alone {
+            eights::trial(&bytes, second::utf8::check, &mut seen)
+        } else {
+            checked(&bytes, &mut seen)
+        };
+        outcome.map_err(|difference| {
+            format!(
+                "difference in check {number} of seed {seed}; again: \
+                 --seed {seed} --check {number}\n{difference}"
+            )
+        })?;
+        progress.tell(|| format!("{} of {total} checks, {} bytes", number + 1, seen.bytes));
+    }
+    println!(
+        "{} UTF-8 checks of {} bytes, no difference, {:.1} s",
+        seen.cases,
+        seen.bytes,
+        progress.seconds()
+    );
+    println!(
+        "  with a fault: {}, of which behind an eight: {}; of over 65,536 bytes: {}; eights: {}",
+        seen.faulty, seen.behind, seen.long, seen.eights
+    );
+    Ok(())
+}
+
 fn main() -> ExitCode {
     let options = match options() {
         Ok(options) => options,
@@ -247,6 +293,9 @@ fn main() -> ExitCode {
     }
     if outcome.is_ok() && !options.insertions.is_empty() {
         outcome = run_insertions(&options);
+    }
+    if outcome.is_ok() && !options.checks.is_empty() {
+        outcome = run_checks(&options);
     }
     match outcome {
         Ok(()) => ExitCode::SUCCESS,
