@@ -1,5 +1,6 @@
 //! `bench [--clear] [--rounds N] [--slow]`: nanoseconds a byte of both readers,
-//! on the same texts in one run, and their ratio.
+//! on the same texts in one run, and their ratio; then of their UTF-8 checks
+//! alone, beside Rust's own.
 
 use std::fmt::Write as _;
 use std::hint::black_box;
@@ -23,6 +24,19 @@ const READERS: &[(&str, Reader)] = &[
 ];
 #[cfg(not(feature = "against"))]
 const READERS: &[(&str, Reader)] = &[("second", trials::check::second_read)];
+
+/// Answers the length of the longest front that is UTF-8.
+type Check = fn(&[u8]) -> usize;
+
+const CHECKS: &[(&str, Check)] = &[
+    #[cfg(feature = "against")]
+    ("duper", |bytes| duper::utf8(bytes).front),
+    ("second", |bytes| second::utf8::check(bytes).front),
+    ("std", |bytes| match std::str::from_utf8(bytes) {
+        Ok(text) => text.len(),
+        Err(error) => error.valid_up_to(),
+    }),
+];
 
 /// Rows for every node a text can have.
 const FULL: usize = 4096 * 12;
@@ -125,24 +139,20 @@ fn benches(slow: bool) -> Vec<Bench> {
     benches
 }
 
-/// The median and least time of each reader, one after the other each round.
-fn time(bench: &Bench, rounds: usize, clear: bool) -> Vec<(Duration, Duration)> {
-    let mut tables = vec![vec![0u32; bench.words]; READERS.len()];
-    let mut times = vec![Vec::with_capacity(rounds); READERS.len()];
+/// The median and least time of so many calls, one after the other each round;
+/// `call` makes the one of that number and answers the time it took.
+fn in_turn(
+    calls: usize,
+    rounds: usize,
+    mut call: impl FnMut(usize) -> Duration,
+) -> Vec<(Duration, Duration)> {
+    let mut times = vec![Vec::with_capacity(rounds); calls];
     for round in 0..rounds + 2 {
-        for (at, (_, reader)) in READERS.iter().enumerate() {
-            if clear {
-                tables[at].fill(0);
-            }
-            let started = Instant::now();
-            let answer = reader(black_box(&bench.text), black_box(&mut tables[at]));
-            let taken = started.elapsed();
-            if let Err((number, place)) = answer {
-                panic!("{}: refused {number} {place}", bench.name);
-            }
+        for (at, times) in times.iter_mut().enumerate() {
+            let taken = call(at);
             // The first two rounds warm up.
             if round >= 2 {
-                times[at].push(taken);
+                times.push(taken);
             }
         }
     }
@@ -153,6 +163,65 @@ fn time(bench: &Bench, rounds: usize, clear: bool) -> Vec<(Duration, Duration)> 
             (times[times.len() / 2], times[0])
         })
         .collect()
+}
+
+/// The times of each reader.
+fn time(bench: &Bench, rounds: usize, clear: bool) -> Vec<(Duration, Duration)> {
+    let mut tables = vec![vec![0u32; bench.words]; READERS.len()];
+    in_turn(READERS.len(), rounds, |at| {
+        let (_, reader) = READERS[at];
+        if clear {
+            tables[at].fill(0);
+        }
+        let started = Instant::now();
+        let answer = reader(black_box(&bench.text), black_box(&mut tables[at]));
+        let taken = started.elapsed();
+        if let Err((number, place)) = answer {
+            panic!("{}: refused {number} {place}", bench.name);
+        }
+        taken
+    })
+}
+
+/// The times of each UTF-8 check.
+fn time_checks(name: &str, text: &str, rounds: usize) -> Vec<(Duration, Duration)> {
+    in_turn(CHECKS.len(), rounds, |at| {
+        let (_, check) = CHECKS[at];
+        let started = Instant::now();
+        let front = black_box(check(black_box(text.as_bytes())));
+        let taken = started.elapsed();
+        assert_eq!(front, text.len(), "{name}");
+        taken
+    })
+}
+
+/// The UTF-8 checks alone, on texts of 65,536 bytes.
+fn print_checks(rounds: usize) {
+    println!();
+    println!("The UTF-8 check alone. Nanoseconds a byte, median (least) of {rounds} rounds.");
+    print!("{:<24}{:>7}", "text", "bytes");
+    for (name, _) in CHECKS {
+        print!("{name:>18}");
+    }
+    println!("{}", if cfg!(feature = "against") { "     ratio" } else { "" });
+    let mixed = format!("{}é", "x".repeat(30));
+    for (name, text) in [
+        ("ASCII", "x".repeat(65_536)),
+        ("é alone", "é".repeat(32_768)),
+        ("one é in 32 bytes", mixed.repeat(2_048)),
+    ] {
+        print!("{name:<24}{:>7}", text.len());
+        let times = time_checks(name, &text, rounds);
+        let a_byte = |time: Duration| time.as_nanos() as f64 / text.len() as f64;
+        for (median, least) in &times {
+            print!("{:>9.3} ({:>6.3})", a_byte(*median), a_byte(*least));
+        }
+        // As above, that of `duper` to `second`.
+        if let [(ours, _), (theirs, _), _] = times[..] {
+            print!("{:>10.2}", ours.as_secs_f64() / theirs.as_secs_f64());
+        }
+        println!();
+    }
 }
 
 fn main() {
@@ -200,4 +269,5 @@ fn main() {
         }
         println!();
     }
+    print_checks(rounds);
 }
