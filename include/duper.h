@@ -57,10 +57,10 @@
  *           ten plus 1000. Else 0
  * The words after the last node are 0.
  *
- * A space or a whole comment put right before or after a token, a line comment
- * with its line feed, changes no data, if the text stays within 65,536 bytes:
- * the nodes are the same in all words but places, and a place moves by the
- * bytes put before the byte it names, an end with the last byte of its span.
+ * A space or a whole UTF-8 comment put right before or after a token, a line
+ * comment with its line feed, changes no data, if the text stays within 65,536
+ * bytes: the nodes are the same in all words but places, and a place moves by
+ * the bytes put before the byte it names, an end with the last byte of its span.
  */
 #ifndef DUPER_H
 #define DUPER_H

@@ -60,8 +60,9 @@ impl Default for Limits {
 /// # Ok::<(), duper::Refusal>(())
 /// ```
 ///
-/// Comments and spaces beside a token are no data: with them or without, the
-/// nodes are the same, and only places differ.
+/// Spaces and whole comments beside a token, line comments with their line
+/// feed, are no data: with them or without, the nodes are the same, and only
+/// places differ.
 ///
 /// ```
 /// let plain = duper::Document::read("[412.5, null]")?;

@@ -178,13 +178,14 @@ impl Places {
 }
 
 /// "every node's span lies inside its parent's": the first node whose span,
-/// words 2 and 3, doesn't, or whose parent isn't a node of this table. The
-/// root has no parent.
+/// words 2 and 3, doesn't, or runs backwards, or whose parent isn't an earlier
+/// node of this table. The root has no parent.
 pub fn outside_parent(table: &[u32], nodes: usize) -> Option<usize> {
     let rows: Vec<&[u32]> = table.chunks_exact(ROW).take(nodes).collect();
     (1..rows.len()).find(|&node| {
         let row = rows[node];
-        let parent = rows.get(row[1] as usize);
-        !parent.is_some_and(|parent| parent[2] <= row[2] && row[3] <= parent[3])
+        // "nodes in order of their first byte": a parent comes before its child.
+        let parent = rows[..node].get(row[1] as usize);
+        !parent.is_some_and(|parent| parent[2] <= row[2] && row[2] <= row[3] && row[3] <= parent[3])
     })
 }

@@ -468,8 +468,11 @@ fn spans_inside_their_parents() {
     assert_eq!(outside(1, 0, 3), Some(2));
     assert_eq!(outside(1, 2, 5), Some(2));
     assert_eq!(outside(0, 0, 5), None);
-    // No such parent.
+    // Backwards, though between the parent's ends.
+    assert_eq!(outside(1, 3, 2), Some(2));
+    // No such parent, and itself.
     assert_eq!(outside(3, 2, 3), Some(2));
+    assert_eq!(outside(2, 2, 3), Some(2));
     assert_eq!(outside(NONE, 2, 3), Some(2));
     // The root has none, and words after the last node are no node's.
     assert_eq!(outside_parent(&[0; 2 * ROW], 1), None);
