@@ -66,7 +66,8 @@ eAcute = 0xC3 ∷ 0xA9 ∷ []
 abbrev pub Gives : (s : List ℕ) (front count : ℕ) → Type 0
 Gives s front count = (wholeFront (utf8 s) ≡ front) × (plainEights s ≡ count)
 
-pub record Example : Type 0 where
+-- the sentences of the request on some bytes, with both numbers worked out by hand
+pub record EightsByHand : Type 0 where
   -- "the next eight bytes", else "one character"
   pub none : Gives [] 0 0
   pub seven : Gives (letters 7) 7 0

@@ -3,11 +3,11 @@
 use mathlib.Core.Path.{refl}
 use Rattle.text.specs.Bytes.{feed}
 use Rattle.text.specs.Utf8.{lead, later, utf8Step, utf8, isWhole, wholeFront, plain, plainEight, eightHere, eights, plainEights}
-use Rattle.theorems.specs.Utf8.{Example}
+use Rattle.theorems.specs.Utf8.{EightsByHand}
 
-pub example : Example
+pub eights-by-hand : EightsByHand
 unfolding feed lead later utf8Step utf8 isWhole wholeFront plain plainEight eightHere eights plainEights
-example =
+eights-by-hand =
     record {
       none = (refl, refl);
       seven = (refl, refl);
