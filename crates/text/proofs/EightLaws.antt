@@ -181,7 +181,7 @@ pub data Leaves (i j : ℕ) (u : Utf8) (l : List ℕ) (r : ℕ) : Type 0 where
       → ((m : ℕ) → m < k → isWhole (feed utf8Step u (take m l)) ≡ false) → Leaves i j u l r
   fails : r ≡ i → wholeFront (feed utf8Step u l) ≡ i → ((m : ℕ) → isWhole (feed utf8Step u (take m l)) ≡ false) → Leaves i j u l r
 
-pub leaves : (i j : ℕ) (u : Utf8) (l : List ℕ) → After j u → Keeps i u → Leaves i j u l (characterEnd u l)
+leaves : (i j : ℕ) (u : Utf8) (l : List ℕ) → After j u → Keeps i u → Leaves i j u l (characterEnd u l)
 unfolding After Keeps feed utf8Step wholeFront isWhole isPart characterEnd
 leaves i j (Whole n) [] a k = ends 0 (omega arith) (omega arith) k refl (λ m h. absurd (omega arith))
 leaves i j (Whole n) (b ∷ l) a k = ends 0 (omega arith) (omega arith) k refl (λ m h. absurd (omega arith))
@@ -204,6 +204,14 @@ leaves i j (Broken n) (b ∷ l) a k =
     fails k (ap wholeFront (feed-stays utf8Step (Broken n) (λ b. refl) (b ∷ l)) ∙ k)
     (λ m. ap isWhole (feed-stays utf8Step (Broken n) (λ b. refl) (take m (b ∷ l))))
 
+-- the character whose first byte stands at i
+pub leaves-from : (s : List ℕ) (i : ℕ)
+    → Leaves i (i + 1) (lead i (getD s i 0)) (drop (i + 1) s) (characterEnd (lead i (getD s i 0)) (drop (i + 1) s))
+unfolding utf8Step After
+leaves-from s i =
+    leaves i (i + 1) (lead i (getD s i 0)) (drop (i + 1) s) (after-next i (getD s i 0) (Whole i) (lead i (getD s i 0)) refl refl)
+    (lead-keeps i (getD s i 0))
+
 -- the check from the character's start at i on: it goes on from r, and stops where r is i
 pub record Passed (s : List ℕ) (i r : ℕ) : Type 0 where
   pub goes-up : i ≤ r
@@ -215,11 +223,8 @@ pub record Passed (s : List ℕ) (i r : ℕ) : Type 0 where
 
 module _ (s : List ℕ) (i r : ℕ) where
   pub passed : i < length s → plainEight (drop i s) ≡ false → r ≡ characterEnd (lead i (getD s i 0)) (drop (i + 1) s) → Passed s i r
-  unfolding utf8Step eightHere isWhole After
-  passed h p e =
-      by-end (subst (Leaves i (i + 1) (lead i (getD s i 0)) (drop (i + 1) s)) (sym e)
-      (leaves i (i + 1) (lead i (getD s i 0)) (drop (i + 1) s) (after-next i (getD s i 0) (Whole i) (lead i (getD s i 0)) refl refl)
-      (lead-keeps i (getD s i 0))))
+  unfolding utf8Step eightHere isWhole
+  passed h p e = by-end (subst (Leaves i (i + 1) (lead i (getD s i 0)) (drop (i + 1) s)) (sym e) (leaves-from s i))
     where
       fed : feed utf8Step (Whole i) (drop i s) ≡ feed utf8Step (lead i (getD s i 0)) (drop (i + 1) s)
       fed = feed-turn utf8Step (Whole i) (lead i (getD s i 0)) s i h refl

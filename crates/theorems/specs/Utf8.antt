@@ -1,5 +1,6 @@
 -- The UTF-8 check: what it answers is the longest valid front; its answer and its count of eights are those of the walk that Req 06 speaks
--- of; and both on bytes that are worked out by hand.
+-- of; and both on bytes that are worked out by hand. By its contract `check_utf8` (text/src/utf8.rt) answers these two numbers. What is UTF-8
+-- is `isUtf8` throughout.
 -- Assumes nothing.
 use mathlib.Core.Path.{_≡_}
 use Prim.Native.Nat.{ℕ, _+_, _<_, _≤_}
@@ -16,13 +17,13 @@ pub record Longest (s : List ℕ) (n : ℕ) : Type 0 where
   pub valid : isUtf8 (take n s) ≡ true
   pub no-longer : (m : ℕ) → m ≤ length s → isUtf8 (take m s) ≡ true → m ≤ n
 
--- the place of refusal 2, "length of the longest valid front", and what the check answers: of any bytes
+-- document 01 on refusal 2, whose place is what the check answers: "length of the longest valid front". Of any bytes
 unfoldable pub LongestFront : Type 0
 LongestFront = (s : List ℕ) → Longest s (wholeFront (utf8 s))
 
 -- ---- the walk that Req 06 speaks of
 
--- the first n bytes are one character: they are UTF-8, and of their own fronts only the empty one is
+-- the first n bytes are one character: they are UTF-8, and no shorter front but the empty one is
 pub record Character (s : List ℕ) (n : ℕ) : Type 0 where
   pub some : 0 < n
   pub there : n ≤ length s
@@ -42,7 +43,7 @@ pub record Stops (s : List ℕ) (place : ℕ) : Type 0 where
   pub no-eight : plainEight (drop place s) ≡ false
   pub no-character : (n : ℕ) → Character (drop place s) n → ⊥
 
--- the walk comes to the front with so many eights and stops there, and no other does
+-- the walk comes to the front with so many eights and stops there; no walk stops elsewhere or with another count
 pub record Walk (s : List ℕ) (front count : ℕ) : Type 0 where
   pub walked : Walked s front count
   pub stops : Stops s front
@@ -79,10 +80,14 @@ pub record EightsByHand : Type 0 where
   pub broken-up : Gives (letters 7 ++ (eAcute ++ letters 8)) 17 1
   pub around : Gives (letters 9 ++ (eAcute ++ letters 16)) 27 3
   pub apart : Gives (letters 4 ++ (eAcute ++ letters 4)) 10 0
+  -- U+20AC and U+1F600
+  pub behind-three : Gives (0xE2 ∷ 0x82 ∷ 0xAC ∷ letters 8) 11 1
+  pub behind-four : Gives (0xF0 ∷ 0x9F ∷ 0x98 ∷ 0x80 ∷ letters 8) 12 1
   -- "all below 80 hex"
   pub ends-of-range : Gives (0x00 ∷ (letters 6 ++ (0x7F ∷ []))) 8 1
   pub last-above : Gives (letters 7 ++ (0x80 ∷ letters 8)) 7 0
   -- "up to where it stops": at a fault, and at a character that the end cuts off
   pub fault : Gives (letters 8 ++ (0x80 ∷ letters 8)) 8 1
   pub fault-inside : Gives (letters 8 ++ (0xE2 ∷ letters 8)) 8 1
+  pub surrogate : Gives (letters 8 ++ (0xED ∷ 0xA0 ∷ 0x80 ∷ letters 8)) 8 1
   pub cut-off : Gives (letters 8 ++ (0xE2 ∷ 0x82 ∷ [])) 8 1

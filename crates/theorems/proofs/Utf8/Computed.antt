@@ -18,9 +18,12 @@ eights-by-hand =
       broken-up = (refl, refl);
       around = (refl, refl);
       apart = (refl, refl);
+      behind-three = (refl, refl);
+      behind-four = (refl, refl);
       ends-of-range = (refl, refl);
       last-above = (refl, refl);
       fault = (refl, refl);
       fault-inside = (refl, refl);
+      surrogate = (refl, refl);
       cut-off = (refl, refl);
     }

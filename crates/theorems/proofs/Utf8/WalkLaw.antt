@@ -15,9 +15,8 @@ use Rattle.text.specs.Bytes.{feed}
 use Rattle.text.specs.declared.utf8.Utf8.the-variants.{Whole}
 use Rattle.text.specs.Utf8.{lead, utf8Step, utf8, isWhole, isUtf8, wholeFront, plainEight, plainEights}
 use Rattle.text.specs.Internal.{characterEnd}
-use Rattle.text.proofs.Utf8Laws.{After, after-next, lead-keeps}
 use Rattle.text.proofs.Utf8Join.{after-whole}
-use Rattle.text.proofs.EightLaws.{Leaves, ends, fails, leaves, Passed, passed, Checks, checks-start, checks-eight, checks-passed, checks-stop, checks-end}
+use Rattle.text.proofs.EightLaws.{Leaves, ends, fails, leaves-from, Passed, passed, Checks, checks-start, checks-eight, checks-passed, checks-stop, checks-end}
 use Rattle.theorems.specs.Utf8.{Character, Walked, at-start, over-eight, over-character, Stops, EightsWalked}
 
 -- ---- one character
@@ -76,10 +75,7 @@ module _ (s : List ℕ) where
 
   -- within the text
   here-inside : (i k : ℕ) → i < length s → plainEight (drop i s) ≡ false → Checks s i k → Here i k
-  unfolding utf8Step After
-  here-inside i k h e x =
-      by-end (leaves i (i + 1) (lead i (getD s i 0)) (drop (i + 1) s) (after-next i (getD s i 0) (Whole i) (lead i (getD s i 0)) refl refl)
-      (lead-keeps i (getD s i 0)))
+  here-inside i k h e x = by-end (leaves-from s i)
     where
       cut : drop i s ≡ getD s i 0 ∷ drop (i + 1) s
       cut = drop-cons s i 0 h ∙ ap (λ (n : ℕ). getD s i 0 ∷ drop n s) (sym (add-one i))
