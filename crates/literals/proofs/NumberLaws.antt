@@ -14,7 +14,7 @@ use borrow.Author.Tests.{le-leb, lt-leb, lt-ltb, le-ltb, leb-true, leb-false}
 use Rattle.text.specs.Bytes.{feed}
 use Rattle.text.proofs.FeedLaws.{feed-next}
 use Rattle.literals.specs.declared.number.Number.{Number}
-use Rattle.literals.specs.declared.number.Number.the-variants.{Start, Bad, Sign, Zero, Digit, Gap, Dot, Prefix, Based, BasedGap, Fraction, FractionGap, Mark, ExpSign, ExpZero, ExpDigit, ExpGap}
+use Rattle.literals.specs.declared.number.Number.the-variants.{Start, Bad, Sign, Zero, Digit, Gap, Dot, Prefix, Based, BasedGap, Fraction, FractionGap, Mark, ExpSign, ExpDigit, ExpGap}
 use Rattle.literals.specs.declared.number.Meaning.the-variants.{Decimal, TooWide}
 use Rattle.literals.specs.Number.{numberStep, signedBy, asInteger, asDecimal, meaning}
 use Rattle.literals.specs.InternalNumber.{cap, capped, placesOf}
@@ -86,7 +86,6 @@ step-capped (Fraction minus m places) b = simp (capped-cond, cap-digit, cap-cap)
 step-capped (FractionGap minus m places) b = simp (capped-cond, cap-digit)
 step-capped (Mark minus m places) b = simp (capped-cond, cap-cap)
 step-capped (ExpSign minus m places below) b = simp (capped-cond, cap-cap)
-step-capped (ExpZero minus m places below) b = refl
 step-capped (ExpDigit minus m places below exp) b = simp (capped-cond, cap-digit, cap-cap)
 step-capped (ExpGap minus m places below exp) b = simp (capped-cond, cap-digit, cap-cap)
 
@@ -141,7 +140,6 @@ step-few (Fraction minus m places) b = simp (few-cond, none-few, all-few, less-f
 step-few (FractionGap minus m places) b = simp (few-cond, none-few, all-few, both-true)
 step-few (Mark minus m places) b = simp (few-cond, none-few, less-few, both-true)
 step-few (ExpSign minus m places below) b = simp (few-cond, none-few, less-few, both-true)
-step-few (ExpZero minus m places below) b = none-few (suc places)
 step-few (ExpDigit minus m places below exp) b = simp (few-cond, none-few, less-few, both-true)
 step-few (ExpGap minus m places below exp) b = simp (few-cond, none-few, less-few, both-true)
 
@@ -162,7 +160,6 @@ places-capped (Fraction minus m places) = refl
 places-capped (FractionGap minus m places) = refl
 places-capped (Mark minus m places) = refl
 places-capped (ExpSign minus m places below) = refl
-places-capped (ExpZero minus m places below) = refl
 places-capped (ExpDigit minus m places below exp) = refl
 places-capped (ExpGap minus m places below exp) = refl
 
@@ -274,7 +271,6 @@ meaning-capped (Fraction minus m places) h = decimal-capped minus m (negℤ (pos
 meaning-capped (FractionGap minus m places) h = refl
 meaning-capped (Mark minus m places) h = refl
 meaning-capped (ExpSign minus m places below) h = refl
-meaning-capped (ExpZero minus m places below) h = decimal-capped minus m (negℤ (pos places))
 meaning-capped (ExpDigit minus m places below exp) h =
     decimal-capped minus m (signedBy below (cap exp) +ℤ negℤ (pos places)) ∙ exponent-capped minus m places below exp h
 meaning-capped (ExpGap minus m places below exp) h = refl

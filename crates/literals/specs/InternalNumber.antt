@@ -6,7 +6,7 @@ use Prim.Native.Nat.{ℕ}
 use mathlib.Core.Bool.{cond}
 use lib.Dec.{leb}
 use Rattle.literals.specs.declared.number.Number.{Number}
-use Rattle.literals.specs.declared.number.Number.the-variants.{Start, Bad, Sign, Zero, Digit, Gap, Dot, Prefix, Based, BasedGap, Fraction, FractionGap, Mark, ExpSign, ExpZero, ExpDigit, ExpGap}
+use Rattle.literals.specs.declared.number.Number.the-variants.{Start, Bad, Sign, Zero, Digit, Gap, Dot, Prefix, Based, BasedGap, Fraction, FractionGap, Mark, ExpSign, ExpDigit, ExpGap}
 
 -- below 2 ^ 64, and above 2 ^ 63 by more than 400: an exponent at the cap is out of range at any count of fraction digits
 unfoldable pub cap : ℕ → ℕ
@@ -28,7 +28,6 @@ capped (Fraction minus m places) = Fraction minus (cap m) places
 capped (FractionGap minus m places) = FractionGap minus (cap m) places
 capped (Mark minus m places) = Mark minus (cap m) places
 capped (ExpSign minus m places below) = ExpSign minus (cap m) places below
-capped (ExpZero minus m places below) = ExpZero minus (cap m) places below
 capped (ExpDigit minus m places below exp) = ExpDigit minus (cap m) places below (cap exp)
 capped (ExpGap minus m places below exp) = ExpGap minus (cap m) places below (cap exp)
 
@@ -48,6 +47,5 @@ placesOf (Fraction minus m places) = places
 placesOf (FractionGap minus m places) = places
 placesOf (Mark minus m places) = places
 placesOf (ExpSign minus m places below) = places
-placesOf (ExpZero minus m places below) = places
 placesOf (ExpDigit minus m places below exp) = places
 placesOf (ExpGap minus m places below exp) = places

@@ -1,5 +1,5 @@
--- Numbers, "000's grammar" with document 01's ranges: a machine over the bytes of a number token, and the meaning at its end.
--- The machine's states and the meanings are the code's own enums, src/number.rt; here their numbers are unbounded.
+-- Numbers, "000's grammar" with document 01's ranges and Req 02's exponents: a machine over the bytes of a number token, and the
+-- meaning at its end. The machine's states and the meanings are the code's own enums, src/number.rt; here their numbers are unbounded.
 -- Assumes nothing.
 use Prim.Native.Nat.{ℕ, suc, _+_, _*_}
 use mathlib.Core.Bool.{Bool, true, false, not, cond, _&&_, _||_}
@@ -9,7 +9,7 @@ use lib.IntN.{ℤ, pos, negsuc, negℤ, _+ℤ_}
 use lib.Signed.{leZ}
 use Rattle.text.specs.Bytes.{feed, is, between, isDigitIn, digitValue}
 use Rattle.literals.specs.declared.number.Number.{Number}
-use Rattle.literals.specs.declared.number.Number.the-variants.{Start, Bad, Sign, Zero, Digit, Gap, Dot, Prefix, Based, BasedGap, Fraction, FractionGap, Mark, ExpSign, ExpZero, ExpDigit, ExpGap}
+use Rattle.literals.specs.declared.number.Number.the-variants.{Start, Bad, Sign, Zero, Digit, Gap, Dot, Prefix, Based, BasedGap, Fraction, FractionGap, Mark, ExpSign, ExpDigit, ExpGap}
 use Rattle.literals.specs.declared.number.Meaning.{Meaning}
 use Rattle.literals.specs.declared.number.Meaning.the-variants.{Integer, Decimal, Malformed, TooWide}
 
@@ -66,15 +66,12 @@ numberStep (Fraction minus m places) b =
     (cond (is "_" b) (FractionGap minus m places)
     (cond (isE b) (Mark minus m places) Bad))
 numberStep (FractionGap minus m places) b = cond (isDigitIn 10 b) (Fraction minus (andDigit 10 m b) (suc places)) Bad
--- "an exponent written as a decimal integer .. So `1e06` is refused with 3"
+-- Req 02: "an exponent is an optional sign and one or more digits, with a single underscore allowed between digits, and leading zeros
+-- allowed"
 numberStep (Mark minus m places) b =
     cond (isSign b) (ExpSign minus m places (is "-" b))
-    (cond (isZero b) (ExpZero minus m places false)
-    (cond (isOneToNine b) (ExpDigit minus m places false (digitValue b)) Bad))
-numberStep (ExpSign minus m places below) b =
-    cond (isZero b) (ExpZero minus m places below)
-    (cond (isOneToNine b) (ExpDigit minus m places below (digitValue b)) Bad)
-numberStep (ExpZero minus m places below) b = Bad
+    (cond (isDigitIn 10 b) (ExpDigit minus m places false (digitValue b)) Bad)
+numberStep (ExpSign minus m places below) b = cond (isDigitIn 10 b) (ExpDigit minus m places below (digitValue b)) Bad
 numberStep (ExpDigit minus m places below exp) b =
     cond (isDigitIn 10 b) (ExpDigit minus m places below (andDigit 10 exp b))
     (cond (is "_" b) (ExpGap minus m places below exp) Bad)
@@ -114,7 +111,6 @@ meaning (Fraction minus m places) = asDecimal minus m (negℤ (pos places))
 meaning (FractionGap minus m places) = Malformed
 meaning (Mark minus m places) = Malformed
 meaning (ExpSign minus m places below) = Malformed
-meaning (ExpZero minus m places below) = asDecimal minus m (negℤ (pos places))
 meaning (ExpDigit minus m places below exp) = asDecimal minus m (signedBy below exp +ℤ negℤ (pos places))
 meaning (ExpGap minus m places below exp) = Malformed
 

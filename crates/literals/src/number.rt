@@ -16,8 +16,8 @@ const CAP: u64 = 10000000000000000000;
 
 // Where a number stands, named by its last byte, with what has been read: whether a sign (signed) and a minus, the whole number
 // m of all digits so far, the count of fraction digits (places), the exponent's minus and its value. Zero is a 0 as the whole
-// integer part, ExpZero one as the whole exponent; a Gap stands after a `_`, Dot after the point, Mark after the `e` or `E`;
-// Prefix after `0x`, `0o` or `0b`, and Based after a digit there.
+// integer part; a Gap stands after a `_`, Dot after the point, Mark after the `e` or `E`; Prefix after `0x`, `0o` or `0b`, and
+// Based after a digit there.
 pub enum Number {
     Start,
     Bad,
@@ -67,12 +67,6 @@ pub enum Number {
         places: u64,
     },
     ExpSign {
-        minus: bool,
-        m: u64,
-        places: u64,
-        below: bool,
-    },
-    ExpZero {
         minus: bool,
         m: u64,
         places: u64,
@@ -374,62 +368,28 @@ fn mark_step(minus: bool, m: u64, places: u64, b: u8) -> Number
             below: true,
         };
     }
-    if b == 48 {
-        return Number::ExpZero {
-            minus,
-            m,
-            places,
-            below: false,
-        };
-    }
-    if is_one_to_nine(b) {
-        return Number::ExpDigit {
-            minus,
-            m,
-            places,
-            below: false,
-            exp: digit_of(b),
-        };
-    }
-    Number::Bad
+    exp_sign_step(minus, m, places, false, b)
 }
 
 fn exp_sign_step(minus: bool, m: u64, places: u64, below: bool, b: u8) -> Number
     ensures { λ r. ⌜ capped r ≡ capped (numberStep (Number.ExpSign minus m places below) b) ⌝ }
 {
-    if b == 48 {
-        return Number::ExpZero {
-            minus,
-            m,
-            places,
-            below,
-        };
+    let exp = digit_of(b);
+    if 10 <= exp {
+        return Number::Bad;
     }
-    if is_one_to_nine(b) {
-        return Number::ExpDigit {
-            minus,
-            m,
-            places,
-            below,
-            exp: digit_of(b),
-        };
+    Number::ExpDigit {
+        minus,
+        m,
+        places,
+        below,
+        exp,
     }
-    Number::Bad
 }
 
 fn exp_digit_step(minus: bool, m: u64, places: u64, below: bool, exp: u64, b: u8) -> Number
     ensures { λ r. ⌜ capped r ≡ capped (numberStep (Number.ExpDigit minus m places below exp) b) ⌝ }
 {
-    let d = digit_of(b);
-    if d < 10 {
-        return Number::ExpDigit {
-            minus,
-            m,
-            places,
-            below,
-            exp: and_digit(10, exp, d),
-        };
-    }
     if b == 95 {
         return Number::ExpGap {
             minus,
@@ -439,23 +399,23 @@ fn exp_digit_step(minus: bool, m: u64, places: u64, below: bool, exp: u64, b: u8
             exp,
         };
     }
-    Number::Bad
+    exp_gap_step(minus, m, places, below, exp, b)
 }
 
 fn exp_gap_step(minus: bool, m: u64, places: u64, below: bool, exp: u64, b: u8) -> Number
     ensures { λ r. ⌜ capped r ≡ capped (numberStep (Number.ExpGap minus m places below exp) b) ⌝ }
 {
     let d = digit_of(b);
-    if d < 10 {
-        return Number::ExpDigit {
-            minus,
-            m,
-            places,
-            below,
-            exp: and_digit(10, exp, d),
-        };
+    if 10 <= d {
+        return Number::Bad;
     }
-    Number::Bad
+    Number::ExpDigit {
+        minus,
+        m,
+        places,
+        below,
+        exp: and_digit(10, exp, d),
+    }
 }
 
 // The machine after one byte more.
@@ -483,12 +443,6 @@ fn number_step(n: Number, b: u8) -> Number
             places,
             below,
         } => exp_sign_step(minus, m, places, below, b),
-        Number::ExpZero {
-            minus: _,
-            m: _,
-            places: _,
-            below: _,
-        } => Number::Bad,
         Number::ExpDigit {
             minus,
             m,
@@ -594,12 +548,6 @@ fn meaning_of(n: Number) -> Meaning
             places: _,
             below: _,
         } => Meaning::Malformed,
-        Number::ExpZero {
-            minus,
-            m,
-            places,
-            below: _,
-        } => as_decimal(minus, m, true, places),
         Number::ExpDigit {
             minus,
             m,

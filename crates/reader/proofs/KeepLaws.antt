@@ -21,7 +21,7 @@ use Rattle.literals.specs.InternalContent.{Sound}
 use Rattle.literals.proofs.StepLaws.{spent, good-next}
 use Rattle.literals.proofs.TallyLaws.{start-sound}
 use Rattle.literals.specs.declared.number.Number.{Number}
-use Rattle.literals.specs.declared.number.Number.the-variants.{Start, Bad, Sign, Zero, Digit, Gap, Dot, Prefix, Based, BasedGap, Fraction, FractionGap, Mark, ExpSign, ExpZero, ExpDigit, ExpGap}
+use Rattle.literals.specs.declared.number.Number.the-variants.{Start, Bad, Sign, Zero, Digit, Gap, Dot, Prefix, Based, BasedGap, Fraction, FractionGap, Mark, ExpSign, ExpDigit, ExpGap}
 use Rattle.literals.specs.declared.number.Meaning.{Meaning}
 use Rattle.literals.specs.declared.number.Meaning.the-variants as N
 use Rattle.literals.specs.Number.{numberStep, most, signedBy, asInteger, asDecimal, meaning, number}
@@ -108,7 +108,6 @@ meaning-ranged (Fraction minus m places) = decimal-ranged minus m (negℤ (pos p
 meaning-ranged (FractionGap minus m places) = tt
 meaning-ranged (Mark minus m places) = tt
 meaning-ranged (ExpSign minus m places below) = tt
-meaning-ranged (ExpZero minus m places below) = decimal-ranged minus m (negℤ (pos places))
 meaning-ranged (ExpDigit minus m places below exp) = decimal-ranged minus m (signedBy below exp +ℤ negℤ (pos places))
 meaning-ranged (ExpGap minus m places below exp) = tt
 

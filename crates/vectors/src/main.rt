@@ -1,8 +1,9 @@
 // Runs the papers' lexical cases: each line of standard input is a case, and each gives a line of output, held to `stdout`.
 //
-// A case is a letter, a space and a text, in which `~HH` stands for the byte HH. `t`: the tokens of the text, each with its
-// value and places, up to the end or the first fault. `u`: the length of the longest front that is UTF-8, and how many eights of
-// plain bytes the check passed over. `k`: whether the first two tokens are keys with the same content.
+// A case is a letter, a space and a text, in which `~HH` stands for the byte HH, and `~*NNNNN*B` for the byte B, NNNNN times (a
+// decimal number of five digits). `t`: the tokens of the text, each with its value and places, up to the end or the first fault.
+// `u`: the length of the longest front that is UTF-8, and how many eights of plain bytes the check passed over. `k`: whether the
+// first two tokens are keys with the same content.
 ghost use Prim.Native.Nat.{_<_};
 
 mod keys;
@@ -28,7 +29,37 @@ fn pair(high: u8, low: u8) -> u8 {
     nibble(high) * 16 + nibble(low)
 }
 
-// The text of a case, with each `~HH` replaced by its byte, to the front of out: how many bytes it has.
+// A digit of a case as a number.
+fn digit_at(case: &[u8], i: usize) -> usize
+    ensures { λ r. ⌜ r < 16 ⌝ }
+{
+    nibble(byte_at(case, i)) as usize
+}
+
+// The number of five digits from i on.
+fn five_digits(case: &[u8], i: usize) -> usize
+    requires { ⌜ i < 18446744073709551000 ⌝ }
+{
+    let high = digit_at(case, i) * 10000 + digit_at(case, i + 1) * 1000;
+    high + digit_at(case, i + 2) * 100 + digit_at(case, i + 3) * 10 + digit_at(case, i + 4)
+}
+
+// The byte b, count times, or as often as there is room, to out from `from` on: where it ends.
+fn repeat(b: u8, count: usize, out: &mut [u8], from: usize) -> usize {
+    let mut left = count;
+    let mut k = from;
+    while 0 < left {
+        if out.len() <= k {
+            return k;
+        }
+        out[k] = b;
+        k += 1;
+        left -= 1;
+    }
+    k
+}
+
+// The text of a case, with each `~HH` and `~*NNNNN*B` replaced by its bytes, to the front of out: how many bytes it has.
 fn plain(case: &[u8], out: &mut [u8]) -> usize {
     let mut i = 0;
     let mut k = 0;
@@ -36,15 +67,18 @@ fn plain(case: &[u8], out: &mut [u8]) -> usize {
         if out.len() <= k {
             return k;
         }
-        let at = k;
-        k += 1;
         let b = case[i];
-        if b == b'~' {
-            out[at] = pair(byte_at(case, i + 1), byte_at(case, i + 2));
-            i += 3;
-        } else {
-            out[at] = b;
+        if b != b'~' {
+            out[k] = b;
+            k += 1;
             i += 1;
+        } else if byte_at(case, i + 1) == b'*' {
+            k = repeat(byte_at(case, i + 8), five_digits(case, i + 2), out, k);
+            i += 9;
+        } else {
+            out[k] = pair(byte_at(case, i + 1), byte_at(case, i + 2));
+            k += 1;
+            i += 3;
         }
     }
     k
@@ -56,9 +90,9 @@ fn run(line: &[u8]) {
         show::line(b"no case");
         return;
     }
-    let mut space = [0u8; 4096];
+    let mut space = [0u8; 65536];
     let n = plain(&line[2..], &mut space);
-    if 4096 < n {
+    if 65536 < n {
         return;
     }
     let mode = line[0];

@@ -1,35 +1,25 @@
 use native.Mathlib.Omega.{arith}
-use borrow.Author.Tests.{lt-ltb, le-ltb, eq-eqb, ne-eqb}
+use borrow.Author.Tests.{ne-eqb}
 use Rattle.text.specs.Bytes.{digitValue}
 use Rattle.literals.specs.Number.{numberStep}
 use Rattle.literals.specs.InternalNumber.{capped}
-use Rattle.literals.proofs.NumberLaws.{cap-cap}
 use borrow.Author.Needs.{needs}
 use Rattle.literals.proofs.number.exp_digit_step.Statement.{statement}
 use Rattle.literals.proofs.number.exp_digit_step.Tie as tie
 use Rattle.literals.proofs.number.exp_digit_step.Reads as reads
 use Rattle.literals.proofs.number.exp_digit_step.Lts as lts
-use Rattle.literals.proofs.number.and_digit.Reads as and-digit-reads
-use Rattle.literals.proofs.number.digit_of.Reads as digit-of-reads
-
-digit-of-requires : tie.Need-digit-of-requires
-digit-of-requires c κs = search needs
-
-and-digit-requires : tie.Need-and-digit-requires
-and-digit-requires c κs = search needs
+use Rattle.literals.proofs.number.exp_gap_step.Reads as exp-gap-step-reads
 
 returns : tie.Need-returns
-unfolding numberStep capped
-returns c = rw (lt-ltb (digitValue (c .before .before .before .args .b)) 10 (omega arith), c .and-digit .ensures, c .before .before .digit-of .ensures .0, cap-cap)
+unfolding digitValue numberStep capped
+returns c = rw (c .if1 .taken)
+
+exp-gap-step-requires : tie.Need-exp-gap-step-requires
+exp-gap-step-requires c κs = search needs
 
 returns-2 : tie.Need-returns-2
 unfolding numberStep capped
-returns-2 c = rw (le-ltb (digitValue (c .before .before .before .args .b)) 10 (omega arith), eq-eqb _ 95 (c .if2 .taken))
-
-returns-3 : tie.Need-returns-3
-unfolding numberStep capped
-returns-3 c = rw (le-ltb (digitValue (c .before .before .before .args .b)) 10 (omega arith), ne-eqb _ 95 (c .if2 .left))
+returns-2 c = rw (ne-eqb _ 95 (c .before .if1 .left)) (c .exp-gap-step .ensures)
 
 pub exp-digit-step-spec : {M : Type 1} → statement M
-exp-digit-step-spec =
-    tie.close (tie.spec digit-of-requires and-digit-requires returns returns-2 returns-3)
+exp-digit-step-spec = tie.close (tie.spec returns exp-gap-step-requires returns-2)

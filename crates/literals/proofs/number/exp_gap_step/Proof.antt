@@ -15,16 +15,16 @@ use Rattle.literals.proofs.number.digit_of.Reads as digit-of-reads
 digit-of-requires : tie.Need-digit-of-requires
 digit-of-requires c κs = search needs
 
+returns : tie.Need-returns
+unfolding numberStep capped
+returns c = rw (le-ltb (digitValue (c .before .before .args .b)) 10 (omega arith))
+
 and-digit-requires : tie.Need-and-digit-requires
 and-digit-requires c κs = search needs
 
-returns : tie.Need-returns
-unfolding numberStep capped
-returns c = rw (lt-ltb (digitValue (c .before .before .before .args .b)) 10 (omega arith), c .and-digit .ensures, c .before .before .digit-of .ensures .0, cap-cap)
-
 returns-2 : tie.Need-returns-2
 unfolding numberStep capped
-returns-2 c = rw (le-ltb (digitValue (c .before .before .args .b)) 10 (omega arith))
+returns-2 c = rw (lt-ltb (digitValue (c .before .before .before .args .b)) 10 (omega arith), c .and-digit .ensures, c .before .before .digit-of .ensures .0, cap-cap)
 
 pub exp-gap-step-spec : {M : Type 1} → statement M
-exp-gap-step-spec = tie.close (tie.spec digit-of-requires and-digit-requires returns returns-2)
+exp-gap-step-spec = tie.close (tie.spec digit-of-requires returns and-digit-requires returns-2)

@@ -1,5 +1,6 @@
 use native.Mathlib.Omega.{arith}
-use borrow.Author.Tests.{eq-eqb, ne-eqb}
+use borrow.Author.Tests.{lt-ltb, le-ltb}
+use Rattle.text.specs.Bytes.{digitValue}
 use Rattle.literals.specs.Number.{numberStep}
 use Rattle.literals.specs.InternalNumber.{capped}
 use borrow.Author.Needs.{needs}
@@ -8,26 +9,17 @@ use Rattle.literals.proofs.number.exp_sign_step.Tie as tie
 use Rattle.literals.proofs.number.exp_sign_step.Reads as reads
 use Rattle.literals.proofs.number.exp_sign_step.Lts as lts
 use Rattle.literals.proofs.number.digit_of.Reads as digit-of-reads
-use Rattle.literals.proofs.number.is_one_to_nine.Reads as is-one-to-nine-reads
-
-returns : tie.Need-returns
-unfolding numberStep capped
-returns c = rw (eq-eqb _ 48 (c .if1 .taken))
-
-is-one-to-nine-requires : tie.Need-is-one-to-nine-requires
-is-one-to-nine-requires c κs = search needs
 
 digit-of-requires : tie.Need-digit-of-requires
 digit-of-requires c κs = search needs
 
+returns : tie.Need-returns
+unfolding numberStep capped
+returns c = rw (le-ltb (digitValue (c .before .before .args .b)) 10 (omega arith))
+
 returns-2 : tie.Need-returns-2
 unfolding numberStep capped
-returns-2 c = rw (ne-eqb _ 48 (c .before .before .before .if1 .left), ← (c .before .before .is-one-to-nine .ensures), c .before .if2 .taken, c .digit-of .ensures .0)
-
-returns-3 : tie.Need-returns-3
-unfolding numberStep capped
-returns-3 c = rw (ne-eqb _ 48 (c .before .before .if1 .left), ← (c .before .is-one-to-nine .ensures), c .if2 .left)
+returns-2 c = rw (lt-ltb (digitValue (c .before .before .args .b)) 10 (omega arith), c .before .digit-of .ensures .0)
 
 pub exp-sign-step-spec : {M : Type 1} → statement M
-exp-sign-step-spec =
-    tie.close (tie.spec returns is-one-to-nine-requires digit-of-requires returns-2 returns-3)
+exp-sign-step-spec = tie.close (tie.spec digit-of-requires returns returns-2)

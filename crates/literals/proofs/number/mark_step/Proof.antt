@@ -7,8 +7,7 @@ use Rattle.literals.proofs.number.mark_step.Statement.{statement}
 use Rattle.literals.proofs.number.mark_step.Tie as tie
 use Rattle.literals.proofs.number.mark_step.Reads as reads
 use Rattle.literals.proofs.number.mark_step.Lts as lts
-use Rattle.literals.proofs.number.digit_of.Reads as digit-of-reads
-use Rattle.literals.proofs.number.is_one_to_nine.Reads as is-one-to-nine-reads
+use Rattle.literals.proofs.number.exp_sign_step.Reads as exp-sign-step-reads
 
 returns : tie.Need-returns
 unfolding numberStep capped
@@ -18,32 +17,12 @@ returns-2 : tie.Need-returns-2
 unfolding numberStep capped
 returns-2 c = rw (ne-eqb _ 43 (c .before .if1 .left), eq-eqb _ 45 (c .if2 .taken))
 
+exp-sign-step-requires : tie.Need-exp-sign-step-requires
+exp-sign-step-requires c κs = search needs
+
 returns-3 : tie.Need-returns-3
 unfolding numberStep capped
-returns-3 c = rw (ne-eqb _ 43 (c .before .before .if1 .left), ne-eqb _ 45 (c .before .if2 .left), eq-eqb _ 48 (c .if3 .taken))
-
-is-one-to-nine-requires : tie.Need-is-one-to-nine-requires
-is-one-to-nine-requires c κs = search needs
-
-digit-of-requires : tie.Need-digit-of-requires
-digit-of-requires c κs = search needs
-
-returns-4 : tie.Need-returns-4
-unfolding numberStep capped
-returns-4 c = rw (ne-eqb _ 43 (c .before .before .before .before .before .if1 .left), ne-eqb _ 45 (c .before .before .before .before .if2 .left), ne-eqb _ 48 (c .before .before .before .if3 .left), ← (c .before .before .is-one-to-nine .ensures), c .before .if4 .taken, c .digit-of .ensures .0)
-
-returns-5 : tie.Need-returns-5
-unfolding numberStep capped
-returns-5 c = rw (ne-eqb _ 43 (c .before .before .before .before .if1 .left), ne-eqb _ 45 (c .before .before .before .if2 .left), ne-eqb _ 48 (c .before .before .if3 .left), ← (c .before .is-one-to-nine .ensures), c .if4 .left)
+returns-3 c = rw (ne-eqb _ 43 (c .before .before .if1 .left), ne-eqb _ 45 (c .before .if2 .left)) (c .exp-sign-step .ensures)
 
 pub mark-step-spec : {M : Type 1} → statement M
-mark-step-spec =
-    tie.close
-    (tie.spec
-    returns
-    returns-2
-    returns-3
-    is-one-to-nine-requires
-    digit-of-requires
-    returns-4
-    returns-5)
+mark-step-spec = tie.close (tie.spec returns returns-2 exp-sign-step-requires returns-3)

@@ -66,12 +66,6 @@ enum-told-10 c = search needs
 enum-known-n-5 : tie.Need-enum-known-n-5
 enum-known-n-5 c = search needs
 
-as-decimal-requires-2 : tie.Need-as-decimal-requires-2
-as-decimal-requires-2 c κs = search needs
-
-enum-known-n-6 : tie.Need-enum-known-n-6
-enum-known-n-6 c = search needs
-
 with-exponent-requires : tie.Need-with-exponent-requires
 with-exponent-requires c κs = search needs
 
@@ -136,15 +130,11 @@ returns-14 c = rw (c .enum-told10 .given .1)
 
 returns-15 : tie.Need-returns-15
 unfolding meaning
-returns-15 c = rw (c .before .before .n5 .given .1) (c .as-decimal2 .ensures)
+returns-15 c = rw (c .before .before .n5 .given .1) (c .with-exponent .ensures)
 
 returns-16 : tie.Need-returns-16
 unfolding meaning
-returns-16 c = rw (c .before .before .n6 .given .1) (c .with-exponent .ensures)
-
-returns-17 : tie.Need-returns-17
-unfolding meaning
-returns-17 c = rw (c .enum-told11 .given .1)
+returns-16 c = rw (c .enum-told11 .given .1)
 
 pub meaning-of-spec : {M : Type 1} → statement M
 meaning-of-spec =
@@ -169,8 +159,6 @@ meaning-of-spec =
     enum-told-9
     enum-told-10
     enum-known-n-5
-    as-decimal-requires-2
-    enum-known-n-6
     with-exponent-requires
     enum-told-11
     returns
@@ -188,5 +176,4 @@ meaning-of-spec =
     returns-13
     returns-14
     returns-15
-    returns-16
-    returns-17)
+    returns-16)

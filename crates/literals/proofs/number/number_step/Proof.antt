@@ -105,9 +105,6 @@ enum-known-n-12 c = search needs
 exp-sign-step-requires : tie.Need-exp-sign-step-requires
 exp-sign-step-requires c κs = search needs
 
-enum-told-3 : tie.Need-enum-told-3
-enum-told-3 c = search needs
-
 enum-known-n-13 : tie.Need-enum-known-n-13
 enum-known-n-13 c = search needs
 
@@ -164,14 +161,10 @@ returns-14 : tie.Need-returns-14
 returns-14 c = rw (c .before .before .n12 .given .1) (c .exp-sign-step .ensures)
 
 returns-15 : tie.Need-returns-15
-unfolding numberStep
-returns-15 c = rw (c .enum-told3 .given .1)
+returns-15 c = rw (c .before .before .n13 .given .1) (c .exp-digit-step .ensures)
 
 returns-16 : tie.Need-returns-16
-returns-16 c = rw (c .before .before .n13 .given .1) (c .exp-digit-step .ensures)
-
-returns-17 : tie.Need-returns-17
-returns-17 c = rw (c .before .before .n14 .given .1) (c .exp-gap-step .ensures)
+returns-16 c = rw (c .before .before .n14 .given .1) (c .exp-gap-step .ensures)
 
 pub number-step-spec : {M : Type 1} → statement M
 number-step-spec =
@@ -204,7 +197,6 @@ number-step-spec =
     mark-step-requires
     enum-known-n-12
     exp-sign-step-requires
-    enum-told-3
     enum-known-n-13
     exp-digit-step-requires
     enum-known-n-14
@@ -224,5 +216,4 @@ number-step-spec =
     returns-13
     returns-14
     returns-15
-    returns-16
-    returns-17)
+    returns-16)

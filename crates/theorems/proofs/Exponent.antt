@@ -1,0 +1,3 @@
+-- The rule of exponents: what the machine takes and means, leading zeros, and the examples.
+pub mod RuleLaw
+pub mod Computed
