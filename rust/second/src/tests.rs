@@ -1,5 +1,5 @@
 //! Document 01's own examples, and the readings of it that docs/DECISIONS.md
-//! lists. Expected values are taken from the papers.
+//! lists; exponents by document 02. Expected values are taken from the papers.
 
 use crate::*;
 
@@ -428,7 +428,11 @@ fn reading_of_decimals() {
     for (written, p) in [("1e+0", 0), ("1e-0", 0), ("1e0", 0), ("1E5", 5), ("1e1_0", 10)] {
         decimal(written, false, 1, p);
     }
-    for written in ["1e00", "1e06", "1e+06", "1e0_0", "1e_5", "1e5_", "1e5__0", "1e", "1e+"] {
+    // Document 02's request 02; tests/exponent.rs has the rest of it.
+    for (written, p) in [("1e00", 0), ("1e06", 6), ("1e+06", 6), ("1e0_0", 0)] {
+        decimal(written, false, 1, p);
+    }
+    for written in ["1e_5", "1e5_", "1e5__0", "1e", "1e+"] {
         bad(written, 3);
     }
     decimal("1.0e401", false, 10, 400);
@@ -763,6 +767,8 @@ fn document_000() {
     taken("{color: RGB((255, 0, 128)), birthday: ISO-8601(\"2025-10-20\"), hash: SHA_256(b\"\\xde\")}");
     refused("{Wrong(use): null}", 7, 6);
     refused("{Of(\"identifiers\"): null}", 7, 3);
-    refused("{float5: 1e06}", 3, 9);
+    // Document 01 refused it with 3; document 02's request 02 takes it.
+    let rows = taken("{float5: 1e06}");
+    assert_eq!(rows[1], [7, 0, 9, 13, 1, 7, 0, 0, 2, 1, 0, 1006]);
     taken("Items([\n\"item1\",\n\"item2\",\n])");
 }
