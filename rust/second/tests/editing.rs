@@ -267,7 +267,120 @@ fn reading_of_undo() {
     assert_eq!(lent.text, b"[2]");
 }
 
+// Document 02's request 02: "Demands 2 and 3 read with this rule".
+
+#[test]
+fn exponents_with_leading_zeros() {
+    let mut lent = Lent::new(b"[1, null]", 14, b"", 40, 3);
+    // `null` goes from 4 to 8, and four bytes come.
+    let answer = lent.correct(2, b"1e06");
+    assert_eq!(answer, Answer { refusal: None, nodes: 3, used: 9, kept: 16 });
+    assert_eq!(lent.text, b"[1, 1e06]\xEE\xEE\xEE\xEE\xEE");
+    assert_eq!(lent.journal[..16], entry(b"null", 4, 4, 16));
+    let mut rows = [
+        [2, u32::MAX, 0, 9, 0, 0, 0, 0, 3, 2, 0, 0],
+        [6, 0, 1, 2, 0, 0, 0, 0, 2, 1, 0, 0],
+        [7, 0, 4, 8, 0, 0, 0, 0, 3, 1, 0, 1006],
+    ];
+    assert_eq!(lent.table[..36], rows.concat());
+    (lent.used, lent.kept) = (answer.used, answer.kept);
+    // What isn't one value stays 13, and so does a number that is too wide.
+    for slip in ["01e6", "1e0_", "1e_0", "1e", "1e+", "1e0__6", "1e06 ", "1e0401", "1e-0401"] {
+        lent.correct_refused(2, slip.as_bytes(), 13, 0);
+    }
+    lent.correct_refused(0, b"1e06", 13, 0);
+    // Four bytes go, seven come: p is -6.
+    let answer = lent.correct(2, b"1e-0_06");
+    assert_eq!(answer, Answer { refusal: None, nodes: 3, used: 12, kept: 32 });
+    assert_eq!(lent.text, b"[1, 1e-0_06]\xEE\xEE");
+    assert_eq!(lent.journal[16..32], entry(b"1e06", 4, 7, 16));
+    (rows[0][3], rows[2][3], rows[2][11]) = (12, 11, 994);
+    assert_eq!(lent.table[..36], rows.concat());
+    (lent.used, lent.kept) = (answer.used, answer.kept);
+    // Back to `1e06`, which reads, and to the first text.
+    let answer = lent.undo();
+    assert_eq!(answer, Answer { refusal: None, nodes: 3, used: 9, kept: 16 });
+    assert_eq!(lent.text, b"[1, 1e06]\0\0\0\xEE\xEE");
+    (rows[0][3], rows[2][3], rows[2][11]) = (9, 8, 1006);
+    assert_eq!(lent.table[..36], rows.concat());
+    (lent.used, lent.kept) = (answer.used, answer.kept);
+    let answer = lent.undo();
+    assert_eq!(answer, Answer { refusal: None, nodes: 3, used: 9, kept: 0 });
+    assert_eq!(lent.text, b"[1, null]\0\0\0\xEE\xEE");
+    (lent.used, lent.kept) = (answer.used, answer.kept);
+    lent.undo_refused(17, 0);
+
+    // An undo may bring such a number back; one that brings back `01e6` is 16.
+    let mut lent = Lent::new(b"[1e06]", 9, b"", 40, 3);
+    let answer = lent.correct(1, b"null");
+    assert_eq!(answer, Answer { refusal: None, nodes: 2, used: 6, kept: 16 });
+    (lent.used, lent.kept) = (answer.used, answer.kept);
+    assert_eq!(lent.undo(), Answer { refusal: None, nodes: 2, used: 6, kept: 0 });
+    assert_eq!(lent.text, b"[1e06]\xEE\xEE\xEE");
+    Lent::new(b"[null]", 9, &entry(b"01e6", 1, 4, 16), 20, 3).undo_refused(16, 0);
+    // A present text that doesn't read.
+    Lent::new(b"[01e6]", 9, b"", 40, 3).correct_refused(1, b"1", 3, 1);
+    Lent::new(b"[1e0401]", 9, b"", 40, 3).undo_refused(5, 1);
+}
+
+#[test]
+fn exponents_of_very_many_zeros() {
+    let number = |back: &str| format!("1e{}{back}", "0".repeat(60_000)).into_bytes();
+    let mut lent = Lent::new(b"[1, null]", 65_536, b"", 100, 3);
+    for slip in ["_", "x", "401", "__6"] {
+        lent.correct_refused(2, &number(slip), 13, 0);
+    }
+    // 9 - 4 + 60,003 bytes.
+    let answer = lent.correct(2, &number("6"));
+    assert_eq!(answer, Answer { refusal: None, nodes: 3, used: 60_008, kept: 16 });
+    assert_eq!(lent.table[24..36], [7, 0, 4, 60_007, 0, 0, 0, 0, 3, 1, 0, 1006]);
+    assert_eq!(lent.journal[..16], entry(b"null", 4, 60_003, 16));
+    (lent.used, lent.kept) = (answer.used, answer.kept);
+    let answer = lent.undo();
+    assert_eq!(answer, Answer { refusal: None, nodes: 3, used: 9, kept: 0 });
+    assert_eq!(lent.text[..9], *b"[1, null]");
+    assert!(lent.text[9..60_008].iter().all(|&byte| byte == 0));
+    assert!(lent.text[60_008..].iter().all(|&byte| byte == 0xEE));
+}
+
 // Document 01's plain book.
+
+#[test]
+fn the_book_on_exponents() {
+    let correct =
+        |node, replacement: &[u8]| Call::Correct { node, replacement: replacement.to_vec() };
+    let lent = book::Lengths { text: 12, journal: 60, table: 40 };
+    let calls = [
+        correct(1, b"01e6"),
+        correct(1, b"1e06"),
+        correct(1, b"1e0_"),
+        correct(0, b"[0e-0_0]"),
+        correct(1, b"1e000401"),
+        Call::Undo,
+        Call::Undo,
+        Call::Undo,
+    ];
+    let pages = pages(b"[1e00]", lent, &calls).unwrap();
+    let brief: Vec<_> = pages
+        .iter()
+        .map(|page| (page.refusal, &page.text[..], page.table[23], page.journal.len()))
+        .collect();
+    // Word 23 is word 11 of node 1. An entry is the old bytes and 12.
+    assert_eq!(
+        brief,
+        [
+            (Some(13), &b"[1e00]"[..], 1000, 0),
+            (None, b"[1e06]", 1006, 16),
+            (Some(13), b"[1e06]", 1006, 16),
+            (None, b"[0e-0_0]", 1000, 34),
+            (Some(13), b"[0e-0_0]", 1000, 34),
+            (None, b"[1e06]", 1006, 16),
+            (None, b"[1e00]", 1000, 0),
+            (Some(17), b"[1e00]", 1000, 0),
+        ]
+    );
+    assert!(book::Book::new(b"[01e6]", lent).is_none());
+}
 
 #[test]
 fn the_plain_book() {
@@ -327,7 +440,11 @@ fn the_book_and_the_calls_agree() {
         state ^= state << 17;
         (state >> 11) as usize % most
     };
-    let replacements: [&[u8]; 16] = [
+    let replacements: [&[u8]; 20] = [
+        b"1e06",
+        b"-0.5E-0_0",
+        b"01e6",
+        b"1e0_",
         b"1",
         b"null",
         b"[]",
