@@ -13,6 +13,7 @@ use crate::histories::{History, Lent};
 use crate::insertions;
 use crate::random::Random;
 use crate::texts::Case;
+use crate::zeros;
 
 /// `duper`'s answer in document 01's terms.
 fn duper_read(text: &[u8], table: &mut [u32]) -> Answer {
@@ -28,25 +29,10 @@ fn duper_content(text: &[u8], call: &ContentCall, out: &mut [u8]) -> Option<Answ
 }
 
 /// Compares both readers on one case; the error tells the difference.
-pub fn compare(case: &Case, random: &mut Random) -> Result<(), String> {
-    let mut ours = check::rubbish(case.words);
-    let mut theirs = ours.clone();
-    let our_answer = duper_read(&case.text, &mut ours);
-    let their_answer = check::second_read(&case.text, &mut theirs);
-    if our_answer != their_answer {
-        return Err(format!("duper: {our_answer:?}\nsecond: {their_answer:?}"));
-    }
-    if let Some(at) = (0..case.words).find(|&at| ours[at] != theirs[at]) {
-        return Err(format!(
-            "both answer {our_answer:?}; word {} of node {}: duper {}, second {}",
-            at % 12,
-            at / 12,
-            ours[at],
-            theirs[at]
-        ));
-    }
-    check::reading(case, our_answer, &ours)?;
-    for call in check::content_calls(case, &ours, random) {
+pub fn compare(case: &Case, random: &mut Random, seen: &mut zeros::Seen) -> Result<(), String> {
+    let (answer, table) = check::both(case, duper_read)?;
+    seen.count(&case.text, answer, &table);
+    for call in check::content_calls(case, &table, random) {
         let mut our_out = check::rubbish_bytes(call.room);
         let mut their_out = our_out.clone();
         let Some(our_answer) = duper_content(&case.text, &call, &mut our_out) else { continue };

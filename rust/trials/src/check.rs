@@ -1,12 +1,17 @@
-//! What must hold of one reader's answers, whatever the other says.
+//! What must hold of one reader's answers, whatever the other says; and a
+//! reader's answers held against `second`'s.
 
 use second::ROW;
 
 use crate::random::Random;
 use crate::texts::{Case, Known};
+use crate::zeros::Seen;
 
 /// An answer in document 01's terms: a count, or a number and a place.
 pub type Answer = Result<usize, (u32, u64)>;
+
+/// A reader on trial: `second`'s, or the archive's.
+pub type Reader = fn(&[u8], &mut [u32]) -> Answer;
 
 /// The table before a call: never zero, so that every word left alone shows.
 pub fn rubbish(words: usize) -> Vec<u32> {
@@ -203,11 +208,36 @@ pub fn second_content(text: &[u8], call: &ContentCall, out: &mut [u8]) -> Answer
         .map_err(|refusal| (refusal.number, refusal.place))
 }
 
+/// Reads a case by the reader on trial and by `second`. Answers and whole tables
+/// must be alike, and be as [`reading`] has them. Gives answer and table; the
+/// error tells the difference.
+pub fn both(case: &Case, reader: Reader) -> Result<(Answer, Vec<u32>), String> {
+    let mut ours = rubbish(case.words);
+    let mut theirs = ours.clone();
+    let our_answer = reader(&case.text, &mut ours);
+    let their_answer = second_read(&case.text, &mut theirs);
+    if our_answer != their_answer {
+        return Err(format!("on trial: {our_answer:?}\nsecond: {their_answer:?}"));
+    }
+    if let Some(at) = (0..case.words).find(|&at| ours[at] != theirs[at]) {
+        return Err(format!(
+            "both answer {our_answer:?}; word {} of node {}: on trial {}, second {}",
+            at % ROW,
+            at / ROW,
+            ours[at],
+            theirs[at]
+        ));
+    }
+    reading(case, our_answer, &ours)?;
+    Ok((our_answer, ours))
+}
+
 /// Checks `second` alone on one case.
-pub fn second_alone(case: &Case, random: &mut Random) -> Result<(), String> {
+pub fn second_alone(case: &Case, random: &mut Random, seen: &mut Seen) -> Result<(), String> {
     let mut table = rubbish(case.words);
     let answer = second_read(&case.text, &mut table);
     reading(case, answer, &table)?;
+    seen.count(&case.text, answer, &table);
     for call in content_calls(case, &table, random) {
         let mut out = rubbish_bytes(call.room);
         let answer = second_content(&case.text, &call, &mut out);
@@ -243,7 +273,7 @@ mod tests {
         for number in 0..6000 {
             let case = texts::case(7, number);
             let mut random = Random::for_case(8, number);
-            if let Err(what) = second_alone(&case, &mut random) {
+            if let Err(what) = second_alone(&case, &mut random, &mut Seen::default()) {
                 panic!("case {number} ({}): {what}\n{}", case.sort, case.text.escape_ascii());
             }
             let mut table = vec![0; case.words];

@@ -6,12 +6,9 @@ use second::insertion::{inserted, moved, outside_parent, Gap, Insertion};
 use second::{MAX_TEXT, ROW};
 
 use crate::annotated::{annotated, Annotated};
-use crate::check::{self, rubbish, Answer};
+use crate::check::{self, rubbish, Reader};
 use crate::random::Random;
 use crate::texts::{Case, Known};
-
-/// A reader on trial: `second`'s, or the archive's.
-pub type Reader = fn(&[u8], &mut [u32]) -> Answer;
 
 /// What was compared, and what came up in it.
 #[derive(Debug, Clone, Default, PartialEq, Eq)]
@@ -180,7 +177,7 @@ fn told(annotated: &Annotated, what: &str) -> String {
 #[cfg(test)]
 mod tests {
     use super::*;
-    use crate::check::second_read;
+    use crate::check::{second_read, Answer};
 
     #[test]
     fn second_keeps_the_rule() {

@@ -1,15 +1,17 @@
 //! Holds the reader of crate `duper` against the independent `second` one.
 //!
-//! [`random`], [`writer`] and [`texts`] make the cases and depend on no
-//! reader. [`check`] looks at one reader's answers alone: invariants, and what
-//! the making of a case tells beforehand. [`histories`] makes lists of
-//! corrections and undos, with what the plain book says of them, [`single`]
-//! makes calls on any buffers, and [`editing`] holds both against the book and
-//! `second`. [`annotated`] makes texts with spaces and comments to be inserted,
-//! and [`insertions`] holds a reader against what they may do to its table.
-//! [`bytes`] makes any bytes, and [`eights`] holds the UTF-8 check against
-//! `second`'s on them. `against` compares both readers and their calls; it needs
-//! the feature of that name, on unless turned off, since it links the archive.
+//! [`random`], [`writer`], [`exponents`] and [`texts`] make the cases and depend
+//! on no reader. [`check`] looks at one reader's answers alone: invariants, and
+//! what the making of a case tells beforehand; and it holds them against
+//! `second`'s. [`zeros`] counts the exponents with leading zeros that were
+//! compared. [`histories`] makes lists of corrections and undos, with what the
+//! plain book says of them, [`single`] makes calls on any buffers, and
+//! [`editing`] holds both against the book and `second`. [`annotated`] makes
+//! texts with spaces and comments to be inserted, and [`insertions`] holds a
+//! reader against what they may do to its table. [`bytes`] makes any bytes, and
+//! [`eights`] holds the UTF-8 check against `second`'s on them. `against`
+//! compares both readers and their calls; it needs the feature of that name, on
+//! unless turned off, since it links the archive.
 
 #![forbid(unsafe_code)]
 
@@ -20,9 +22,11 @@ pub mod bytes;
 pub mod check;
 pub mod editing;
 pub mod eights;
+pub mod exponents;
 pub mod histories;
 pub mod insertions;
 pub mod random;
 pub mod single;
 pub mod texts;
 pub mod writer;
+pub mod zeros;

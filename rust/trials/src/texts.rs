@@ -2,6 +2,7 @@
 //! of the table it is read into. Nothing here depends on the reader under
 //! trial.
 
+use crate::exponents::{self, Meaning, Token};
 use crate::random::Random;
 use crate::writer::{self, Row, Written};
 
@@ -40,7 +41,8 @@ pub fn case(seed: u64, number: u64) -> Case {
         0..=24 => valid(random),
         25..=44 => damaged(random),
         45..=54 => cut(random),
-        55..=69 => glued(random),
+        55..=65 => glued(random),
+        66..=69 => exponent(random),
         70..=76 => spliced(random),
         77..=80 => doubled(random),
         81..=86 => lone_tokens(random),
@@ -52,10 +54,35 @@ pub fn case(seed: u64, number: u64) -> Case {
 }
 
 /// How many cases [`short`] has.
-pub const SHORT: u64 = 5 * (1 + 256 + 65_536);
+pub const SHORT: u64 = TWO_BYTES + EXPONENTS;
+/// Texts of none, one and two bytes, each in five surroundings.
+const TWO_BYTES: u64 = 5 * (1 + 256 + 65_536);
+/// Exponents of none to six bytes, each one of six.
+const EXPONENTS: u64 = 1 + 6 + 36 + 216 + 1_296 + 7_776 + 46_656;
 
-/// Every text of up to two bytes, bare and in four surroundings, by number.
+/// Every text of up to two bytes, bare and in four surroundings, by number;
+/// then every exponent of up to six bytes of `0`, `6`, `_`, `+`, `-` and `x`.
 pub fn short(number: u64) -> Case {
+    match number.checked_sub(TWO_BYTES) {
+        Some(number) => short_exponent(number),
+        None => two_bytes(number),
+    }
+}
+
+fn short_exponent(number: u64) -> Case {
+    let mut text = b"[1e".to_vec();
+    // Shorter ones first: each but the empty one is a byte and an earlier one.
+    let mut rest = number;
+    while rest > 0 {
+        rest -= 1;
+        text.push(b"06_+-x"[(rest % 6) as usize]);
+        rest /= 6;
+    }
+    text.push(b']');
+    Case { sort: "short", text, words: 24, known: Known::Nothing, contents: Vec::new() }
+}
+
+fn two_bytes(number: u64) -> Case {
     let surroundings: [[&[u8]; 2]; 5] =
         [[b"", b""], [b"[", b"]"], [b"{", b":1}"], [b"[\"", b"\"]"], [b"[b64\"", b"\"]"]];
     let [open, close] = surroundings[(number % 5) as usize];
@@ -189,6 +216,11 @@ const FRAGMENTS: &[&[u8]] = &[
     b"-0",
     b"+1",
     b"1e5",
+    b"1e06",
+    b"1e00",
+    b"e-0",
+    b"e+0",
+    b"0_",
     b"1.5",
     b".",
     b"+",
@@ -357,7 +389,7 @@ fn lone_tokens(random: &mut Random) -> Case {
 }
 
 fn near_number(random: &mut Random) -> Vec<u8> {
-    let mut text = match random.below(8) {
+    let mut text = match random.below(10) {
         0 => format!("{}", (i64::MAX as u64).wrapping_add(random.below(4) as u64)),
         1 => format!("-{}", (i64::MAX as u64).wrapping_add(random.below(4) as u64)),
         2 => format!("0x{:x}", (i64::MAX as u64).wrapping_add(random.below(3) as u64)),
@@ -373,6 +405,7 @@ fn near_number(random: &mut Random) -> Vec<u8> {
         }
         5 => format!("{}e{}", random.below(20), "9".repeat(random.between(1, 60))),
         6 => "7".repeat(random.between(17, 45)),
+        7 | 8 => exponents::token(random).written,
         _ => {
             let pieces = ["0", "1", "9", "_", ".", "e", "E", "+", "-", "x", "b", "o", "a", "F"];
             let mut text = random.pick(&["0", "1", "-", "+", "0x"]).to_string();
@@ -388,6 +421,35 @@ fn near_number(random: &mut Random) -> Vec<u8> {
         text.insert(at, *random.pick(&[&b'_', &b'0', &b'.', &b'e', &b'-']));
     }
     text
+}
+
+/// A number with an exponent, of which it is known what it must be: the item of
+/// an array, bare or in an identifier, or a member of an object.
+fn exponent(random: &mut Random) -> Case {
+    let Token { written, meaning } = exponents::token(random);
+    let form = random.below(3);
+    let [open, close] = [["[", "]"], ["[A(", ")]"], ["{k:", "}"]][form];
+    let text = [open, &written, close].concat().into_bytes();
+    let place = open.len() as u32;
+    let end = place + written.len() as u32;
+    let known = match meaning {
+        Meaning::Refused(number) => Known::Refused(number, place.into()),
+        Meaning::Decimal([low, high, power]) => {
+            let (root, value, key, name) = match form {
+                0 => (2, [1, end], [0, 0], [0, 0]),
+                // The value starts with the name and ends behind the bracket.
+                1 => (2, [1, end + 1], [0, 0], [1, 2]),
+                _ => (1, [3, end], [1, 2], [0, 0]),
+            };
+            let [start, end] = value;
+            Known::Rows(vec![
+                [root, u32::MAX, 0, text.len() as u32, 0, 0, 0, 0, 2, 1, 0, 0],
+                [7, 0, start, end, key[0], key[1], name[0], name[1], 2, low, high, power],
+            ])
+        }
+    };
+    let words = 24 + random.below(25);
+    Case { sort: "exponent", text, words, known, contents: Vec::new() }
 }
 
 fn near_string(random: &mut Random) -> Vec<u8> {
@@ -550,7 +612,7 @@ fn length(random: &mut Random) -> Case {
     let mut text = Vec::new();
     let mut tail: Vec<u8> = Vec::new();
     let mut fill = b' ';
-    match random.below(8) {
+    match random.below(10) {
         0 => text.extend_from_slice(b"[]"),
         1 => {
             text.extend_from_slice(b"[\"");
@@ -580,6 +642,16 @@ fn length(random: &mut Random) -> Case {
             text.extend_from_slice(b"[b64\"");
             tail.extend_from_slice(b"\"]");
             fill = b'A';
+        }
+        7 => {
+            text.extend_from_slice(b"[1e");
+            tail.extend_from_slice(b"7]");
+            fill = b'0';
+        }
+        8 => {
+            text.extend_from_slice(b"[1e-");
+            tail.extend_from_slice(b"]");
+            fill = b'9';
         }
         _ => {
             text.extend_from_slice(b"[0.");
@@ -622,6 +694,7 @@ fn long_word(random: &mut Random) -> Case {
 #[cfg(test)]
 mod tests {
     use super::*;
+    use std::collections::HashSet;
 
     #[test]
     fn cases_follow_from_seed_and_number() {
@@ -636,7 +709,18 @@ mod tests {
         let bare = |number: u64| short(5 * number).text;
         assert_eq!(bare(0), b"");
         assert_eq!((bare(1), bare(256)), (vec![0], vec![255]));
-        assert_eq!((bare(257), bare(SHORT / 5 - 1)), (vec![0, 0], vec![255, 255]));
+        assert_eq!((bare(257), bare(TWO_BYTES / 5 - 1)), (vec![0, 0], vec![255, 255]));
         assert_eq!(short(5 * 257 + 3).text, b"[\"\0\0\"]");
+    }
+
+    #[test]
+    fn short_exponents_are_all_there() {
+        let texts: HashSet<_> = (TWO_BYTES..SHORT).map(|number| short(number).text).collect();
+        // All are different, and no longer than six bytes.
+        assert_eq!(texts.len() as u64, EXPONENTS);
+        assert!(texts.iter().all(|text| text.len() <= b"[1e".len() + 6 + b"]".len()));
+        for text in ["[1e]", "[1e06]", "[1e-0_06]", "[1e0__6]", "[1e_]", "[1exxxxxx]"] {
+            assert!(texts.contains(text.as_bytes()), "{text}");
+        }
     }
 }

@@ -28,11 +28,21 @@ struct Writer<'r> {
     budget: usize,
     /// How many containers may still be opened inside each other.
     room: usize,
+    /// Whether the next exponent has thousands of leading zeros. That is so
+    /// once in a text at the most, or it would soon be too long.
+    many_zeros: bool,
+}
+
+impl<'r> Writer<'r> {
+    fn new(random: &'r mut Random, budget: usize, room: usize) -> Self {
+        let many_zeros = random.one_in(200);
+        Writer { random, done: Written::default(), budget, room, many_zeros }
+    }
 }
 
 /// Writes a text of about so many nodes, at most 32 deep.
 pub fn write(random: &mut Random, nodes: usize) -> Written {
-    let mut writer = Writer { random, done: Written::default(), budget: nodes, room: 32 };
+    let mut writer = Writer::new(random, nodes, 32);
     writer.gap();
     writer.value(None, (0, 0), true);
     writer.gap();
@@ -45,14 +55,14 @@ pub fn write(random: &mut Random, nodes: usize) -> Written {
 /// Writes one value of about so many nodes from its first byte to its last, for
 /// replacements; `root`: one that can be the root.
 pub fn write_value(random: &mut Random, nodes: usize, root: bool) -> Written {
-    let mut writer = Writer { random, done: Written::default(), budget: nodes, room: 32 };
+    let mut writer = Writer::new(random, nodes, 32);
     writer.value(None, (0, 0), root);
     writer.done
 }
 
 /// One string alone, for replacements and content calls.
 pub fn write_string(random: &mut Random) -> (Vec<u8>, Vec<u8>) {
-    let mut writer = Writer { random, done: Written::default(), budget: 1, room: 32 };
+    let mut writer = Writer::new(random, 1, 32);
     let content = if writer.random.one_in(2) { writer.text_string() } else { writer.byte_string() };
     (writer.done.text, content)
 }
@@ -507,6 +517,18 @@ impl Writer<'_> {
         [value as u32, (value as u64 >> 32) as u32, 0]
     }
 
+    /// How many zeros are put before an exponent's digits.
+    fn leading_zeros(&mut self) -> usize {
+        if std::mem::take(&mut self.many_zeros) {
+            return self.random.between(1_001, 30_000);
+        }
+        if self.random.one_in(3) {
+            self.random.between(1, 4)
+        } else {
+            0
+        }
+    }
+
     fn decimal(&mut self) -> [u32; 3] {
         let m = match self.random.below(6) {
             0 => i64::MAX as u64,
@@ -546,7 +568,8 @@ impl Writer<'_> {
                     &["", "+"]
                 }));
             }
-            written.push_str(&self.grouped(&exponent.unsigned_abs().to_string()));
+            let digits = "0".repeat(self.leading_zeros()) + &exponent.unsigned_abs().to_string();
+            written.push_str(&self.grouped(&digits));
         }
         self.put(written.as_bytes());
         let wide = m | u64::from(minus) << 63;
@@ -557,7 +580,7 @@ impl Writer<'_> {
 /// An object in which some key comes again in another spelling, and the place
 /// where refusal 8 must stand.
 pub fn write_doubled(random: &mut Random) -> (Vec<u8>, usize) {
-    let mut writer = Writer { random, done: Written::default(), budget: 40, room: 4 };
+    let mut writer = Writer::new(random, 40, 4);
     writer.put(b"{");
     let mut keys = HashSet::new();
     for _ in 0..writer.random.between(1, 6) {

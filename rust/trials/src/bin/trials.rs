@@ -5,7 +5,8 @@
 //! `--self` looks at `second` alone; `--case K`, `--history K`, `--insertion K`
 //! or `--check K` runs that text, history, text with insertions or UTF-8 check
 //! only. `--short` runs every text of up to two bytes, bare and in a few
-//! surroundings, in place of random ones.
+//! surroundings, and every exponent of up to six bytes over a small alphabet, in
+//! place of random texts.
 
 use std::ops::Range;
 use std::process::ExitCode;
@@ -17,6 +18,7 @@ use trials::eights;
 use trials::insertions;
 use trials::random::Random;
 use trials::texts;
+use trials::zeros::{self, Outcomes};
 
 /// What to run.
 struct Options {
@@ -75,7 +77,7 @@ use trials::against::{annotated, checked, compare, edits};
 
 /// Never called: `main` ends before.
 #[cfg(not(feature = "against"))]
-fn compare(_: &texts::Case, _: &mut Random) -> Result<(), String> {
+fn compare(_: &texts::Case, _: &mut Random, _: &mut zeros::Seen) -> Result<(), String> {
     Ok(())
 }
 
@@ -126,14 +128,15 @@ fn run_texts(options: &Options) -> Result<(), String> {
     let total = options.texts.end - options.texts.start;
     let mut progress = Progress::new();
     let mut bytes = 0u64;
+    let mut seen = zeros::Seen::default();
     for number in options.texts.clone() {
         let case = if options.short { texts::short(number) } else { texts::case(seed, number) };
         bytes += case.text.len() as u64;
         let mut random = Random::for_case(!seed, number);
         let outcome = if options.alone {
-            trials::check::second_alone(&case, &mut random)
+            trials::check::second_alone(&case, &mut random, &mut seen)
         } else {
-            compare(&case, &mut random)
+            compare(&case, &mut random, &mut seen)
         };
         outcome.map_err(|difference| {
             let short = if options.short { "--short " } else { "" };
@@ -150,6 +153,24 @@ fn run_texts(options: &Options) -> Result<(), String> {
         progress.tell(|| format!("{} of {total} texts, {bytes} bytes", number + 1));
     }
     println!("{total} texts, no difference, {:.1} s", progress.seconds());
+    for (what, outcomes) in [
+        ("with leading zeros", seen.leading),
+        ("with over 1,000 leading zeros", seen.thousand),
+        ("with over 10,000 leading zeros", seen.ten_thousand),
+        ("of over 10,000 bytes without leading zeros", seen.long),
+    ] {
+        let Outcomes { taken, too_wide, malformed } = outcomes;
+        println!(
+            "  exponents {what}: {}; taken {taken}, refused with 5: {too_wide}, with 3: {malformed}",
+            outcomes.all()
+        );
+    }
+    let [none, plus, minus] = seen.signs;
+    println!(
+        "  of those taken with leading zeros: no sign {none}, plus {plus}, minus {minus}; \
+         with underscores {}",
+        seen.grouped
+    );
     Ok(())
 }
 
