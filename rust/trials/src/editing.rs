@@ -7,6 +7,7 @@ use second::{Answer, ROW};
 use crate::histories::{history, History, Lent};
 use crate::random::Random;
 use crate::single::single;
+use crate::zeros;
 
 /// How many single calls go with each history.
 const SINGLE: usize = 8;
@@ -39,6 +40,9 @@ impl OnTrial {
 pub struct Seen {
     /// In histories, by number.
     pub histories: [u64; 21],
+    /// In those of their corrections whose replacement is a number with leading
+    /// zeros in its exponent.
+    pub zeros: [u64; 21],
     /// In single calls, by number.
     pub single: [u64; 21],
 }
@@ -58,7 +62,7 @@ pub fn second(lent: &mut Lent, call: &Call) -> Answer {
 /// difference, and all that is needed to see it again.
 pub fn trial(random: &mut Random, on_trial: OnTrial, seen: &mut Seen) -> Result<(), String> {
     let history = history(random)?;
-    run(&history, on_trial.editor, &mut seen.histories)?;
+    run(&history, on_trial.editor, seen)?;
     (on_trial.history)(&history)?;
     for _ in 0..SINGLE {
         let (lent, call) = single(random);
@@ -85,7 +89,7 @@ pub fn trial(random: &mut Random, on_trial: OnTrial, seen: &mut Seen) -> Result<
 
 /// Runs a history's calls, each with buffers and lengths as the last one left
 /// them.
-fn run(history: &History, editor: Editor, seen: &mut [u64; 21]) -> Result<(), String> {
+fn run(history: &History, editor: Editor, seen: &mut Seen) -> Result<(), String> {
     let mut ours = Lent::first(&history.first, history.lengths);
     let mut theirs = ours.clone();
     for (number, (call, page)) in history.calls.iter().enumerate() {
@@ -93,7 +97,10 @@ fn run(history: &History, editor: Editor, seen: &mut [u64; 21]) -> Result<(), St
             .and_then(|answer| as_the_book(&ours, answer, page).map(|()| answer))
             .and_then(|answer| cause(call, page).map(|()| answer))
             .map_err(|what| told_to(history, number, &what))?;
-        count(seen, answer);
+        count(&mut seen.histories, answer);
+        if matches!(call, Call::Correct { replacement, .. } if zeros::has_leading(replacement)) {
+            count(&mut seen.zeros, answer);
+        }
     }
     // "Undoing all in force gives back the first text byte for byte."
     if ours.text.get(..ours.used) != Some(&history.first[..]) || ours.kept > 0 {
@@ -320,6 +327,8 @@ mod tests {
         let came_up = |seen: [u64; 21]| (0..=20).filter(|&n| seen[n] > 0).collect::<Vec<_>>();
         assert_eq!(came_up(seen.histories), [0, 12, 13, 14, 15, 16, 17], "{seen:?}");
         assert_eq!(came_up(seen.single), (0..=18).collect::<Vec<_>>(), "{seen:?}");
+        // Leading zeros in an exponent are taken, and refused where they must be.
+        assert_eq!(came_up(seen.zeros), [0, 12, 13, 14, 15], "{seen:?}");
         println!("{seen:?}");
     }
 

@@ -6,7 +6,7 @@ use second::ROW;
 
 use crate::check::{rubbish, rubbish_bytes};
 use crate::random::Random;
-use crate::{texts, writer};
+use crate::{exponents, texts, writer};
 
 /// Buffers as a caller lends them, with the lengths in use.
 #[derive(Debug, Clone, PartialEq, Eq)]
@@ -221,7 +221,7 @@ pub(crate) fn replacement(random: &mut Random, root: bool, room: usize, limit: u
         0 => texts::glue(random, 4),
         1 => Vec::new(),
         2 => {
-            let slips: [&[u8]; 12] = [
+            let slips: [&[u8]; 14] = [
                 b"1, 2",
                 b"1 // x",
                 b" 1",
@@ -232,6 +232,8 @@ pub(crate) fn replacement(random: &mut Random, root: bool, room: usize, limit: u
                 b"x",
                 b"\"a",
                 b"00",
+                b"01e6",
+                b"1e0_",
                 b"'x'",
                 b"\"\xFF\"",
             ];
@@ -263,7 +265,8 @@ pub(crate) fn replacement(random: &mut Random, root: bool, room: usize, limit: u
         20 => b"null".to_vec(),
         21 => b"A([])".to_vec(),
         22 => b"{a:(1,2)}".to_vec(),
-        23..=32 => random.below(2_000).to_string().into_bytes(),
+        23..=29 => random.below(2_000).to_string().into_bytes(),
+        30..=32 => exponents::token(random).written.into_bytes(),
         33 | 34 => writer::write_value(random, 20, false).text,
         _ => writer::write_value(random, 3, false).text,
     }

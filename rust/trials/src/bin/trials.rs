@@ -205,7 +205,11 @@ fn run_histories(options: &Options) -> Result<(), String> {
         sum(seen.single),
         progress.seconds()
     );
-    for (what, seen) in [("histories", seen.histories), ("single calls", seen.single)] {
+    for (what, seen) in [
+        ("histories", seen.histories),
+        ("corrections by a number with leading zeros in its exponent", seen.zeros),
+        ("single calls", seen.single),
+    ] {
         let refused = (1..=20).filter(|&number| seen[number] > 0);
         let refused: Vec<_> = refused.map(|number| format!("{number}: {}", seen[number])).collect();
         println!("  {what}: accepted {}; refused {}", seen[0], refused.join(", "));
