@@ -1,7 +1,7 @@
 //! Corrections and undo over the real archive: document 01's example, every
 //! refusal of the raw calls, and what a document keeps.
 
-use duper::{correct, read, undo, Answer, Document, Limits, Reason, Refusal, ROW};
+use duper::{correct, read, undo, Answer, Decimal, Document, Limits, Reason, Refusal, ROW};
 
 fn refusal(number: u32, place: u32) -> Refusal {
     Refusal { number, place }
@@ -133,6 +133,31 @@ fn a_document_is_corrected_and_goes_back() {
     assert_eq!(document, as_read);
     assert_eq!(document.text(), first);
     assert_eq!(document.undo_all(), Ok(0));
+}
+
+#[test]
+fn a_document_is_corrected_with_leading_zeros_in_the_exponent() {
+    // Document 02's request 02: "Demands 2 and 3 read with this rule".
+    let mut document = Document::read("[412.5, null]").unwrap();
+    let as_read = document.clone();
+    document.correct(2, "1e06").unwrap();
+    assert_eq!(document.text(), b"[412.5, 1e06]");
+    assert_eq!(document.journal(), entry(b"null", 8, 4, 16));
+    let decimal = |document: &Document| document.node(2).and_then(|node| node.decimal());
+    assert_eq!(decimal(&document), Some(Decimal { minus: false, digits: 1, power: 6 }));
+    let before = document.clone();
+    for slip in ["01e6", "1e", "1e0_", "1e_0", "1e0__6", "1e0401"] {
+        assert_eq!(document.correct(2, slip), Err(refusal(13, 0)), "{slip}");
+        assert_eq!(document, before);
+    }
+    let zeros = "0".repeat(60_000);
+    document.correct(2, format!("-1e-{zeros}6")).unwrap();
+    assert_eq!(decimal(&document), Some(Decimal { minus: true, digits: 1, power: -6 }));
+    document.undo().unwrap();
+    assert_eq!(document, before);
+    document.undo().unwrap();
+    assert_eq!(document, as_read);
+    assert_eq!(document.text(), b"[412.5, null]");
 }
 
 #[test]

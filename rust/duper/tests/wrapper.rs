@@ -35,6 +35,65 @@ fn documents_of_the_paper() {
 }
 
 #[test]
+fn exponents_with_leading_zeros() {
+    // "From now an exponent is an optional sign and one or more digits, with a
+    // single underscore allowed between digits, and leading zeros allowed."
+    let mut table = [9; 24];
+    assert_eq!(read(b"[1e06]", &mut table), Ok(2));
+    let root = [2, u32::MAX, 0, 6, 0, 0, 0, 0, 2, 1, 0, 0];
+    let number = [7, 0, 1, 5, 0, 0, 0, 0, 2, 1, 0, 1006];
+    assert_eq!(table[..], [root, number].concat());
+    for (text, power) in
+        [(&b"[1e-06]"[..], -6), (b"[1E+0_6]", 6), (b"[1e-0_0]", 0), (b"[1e0400]", 400)]
+    {
+        let document = Document::read(text).unwrap();
+        let expected = Decimal { minus: false, digits: 1, power };
+        assert_eq!(document.node(1).unwrap().decimal(), Some(expected), "{}", text.escape_ascii());
+    }
+    for (text, number) in [
+        (&b"[01e6]"[..], 3),
+        (b"[1e]", 3),
+        (b"[1e+]", 3),
+        (b"[1e_0]", 3),
+        (b"[1e0_]", 3),
+        (b"[1e0__6]", 3),
+        (b"[1e0x1]", 3),
+        (b"[1e0401]", 5),
+        (b"[0e-0401]", 5),
+    ] {
+        table.fill(9);
+        assert_eq!(read(text, &mut table), Err(refusal(number, 1)), "{}", text.escape_ascii());
+        assert_eq!(table, [0; 24]);
+    }
+}
+
+#[test]
+fn exponents_of_very_many_digits() {
+    // "an exponent of very many zeros must not trip 5"
+    let zeros = "0".repeat(60_000);
+    let document = Document::read(format!("[1e{zeros}6]")).unwrap();
+    let number = document.node(1).unwrap();
+    assert_eq!(number.decimal(), Some(Decimal { minus: false, digits: 1, power: 6 }));
+    assert_eq!(number.span(), 1..60_004);
+    let document = Document::read(format!("[-1.5e-{zeros}]")).unwrap();
+    let number = document.node(1).unwrap();
+    assert_eq!(number.decimal(), Some(Decimal { minus: true, digits: 15, power: -1 }));
+    assert_eq!(number.span(), 1..60_007);
+    let nines = "9".repeat(60_000);
+    for (text, number) in [
+        (format!("[1e{nines}]"), 5),
+        (format!("[1e-{nines}]"), 5),
+        (format!("[1e{zeros}401]"), 5),
+        // 3 goes before 5.
+        (format!("[1e{nines}x]"), 3),
+        (format!("[1e{nines}_]"), 3),
+        (format!("[1e{zeros}__6]"), 3),
+    ] {
+        assert_eq!(Document::read(text).unwrap_err(), refusal(number, 1));
+    }
+}
+
+#[test]
 fn empty_slices_are_fine() {
     assert_eq!(read(b"", &mut []), Err(refusal(7, 0)));
     assert_eq!(read(b"[]", &mut []), Err(refusal(10, 0)));
