@@ -1,9 +1,10 @@
--- Req 02: what may stand behind the `e` of a number, and what it means, in the request's own words and apart from the machine that reads it;
--- that leading zeros never count; and both on numbers that are worked out by hand. By its contract `number_of` (literals/src/number.rt)
--- answers `number`.
+-- Req 02: a decimal with an exponent, in the papers' own words and apart from the machine that reads numbers: what may stand behind its
+-- `e` and what it then means; that leading zeros change nothing; and both on numbers that are worked out by hand. Shared with the machine
+-- are the tests of a byte (`isSign`, `isOneToNine`, `isE`), `signedBy`, and the ranges (`asDecimal`). By its contract `number_of`
+-- (literals/src/number.rt) answers `number`.
 -- Assumes nothing.
 use mathlib.Core.Path.{_≡_}
-use Prim.Native.Nat.{ℕ, _+_, _-_, _*_}
+use Prim.Native.Nat.{ℕ, suc, _+_, _-_, _*_}
 use Prim.Native.Char.{code}
 use Prim.Native.String.{String}
 use mathlib.Core.Bool.{Bool, true, false}
@@ -11,44 +12,64 @@ use mathlib.Core.List.{List, [], _∷_, _++_}
 use lib.ListN.{replicate}
 use lib.IntN.{ℤ, pos, negsuc, negℤ, _+ℤ_}
 use Rattle.text.specs.Switches.{presentEdition}
-use Rattle.text.specs.Bytes.{feed, ascii, is, isDigit}
-use Rattle.literals.specs.declared.number.Number.the-variants.{Start, Mark}
+use Rattle.text.specs.Bytes.{ascii, is, isDigit}
 use Rattle.literals.specs.declared.number.Meaning.{Meaning}
 use Rattle.literals.specs.declared.number.Meaning.the-variants.{Decimal, Malformed, TooWide}
-use Rattle.literals.specs.Number.{isSign, signedBy, numberStep, asDecimal, number}
+use Rattle.literals.specs.Number.{isSign, isOneToNine, isE, signedBy, asDecimal, number}
 use Rattle.reader.specs.Syntax.{Outcome, refused}
 use Rattle.reader.specs.Reading.{reading, tableOf}
 
--- ---- the rule
+-- ---- digits and signs
 
--- "an optional sign", and whether it is a minus
+-- "optional sign", and whether it is a minus
 pub data OptionalSign : (s : List ℕ) (minus : Bool) → Type 0 where
   none : OptionalSign [] false
-  sign : (b : ℕ) → isSign b ≡ true → OptionalSign (b ∷ []) (is "-" b)
+  signed : (b : ℕ) → isSign b ≡ true → OptionalSign (b ∷ []) (is "-" b)
+
+-- bytes s that write the number n, followed by so many digits more, "with a single underscore allowed between digits": the bytes t, which write
+-- the number m
+pub data Followed (s : List ℕ) (n : ℕ) : (t : List ℕ) (m count : ℕ) → Type 0 where
+  by-none : Followed s n s n 0
+  by-digit : (t : List ℕ) (m count b : ℕ) → Followed s n t m count → isDigit b ≡ true
+      → Followed s n (t ++ (b ∷ [])) (m * 10 + (b - code "0")) (suc count)
+  by-underscore : (t : List ℕ) (m count b : ℕ) → Followed s n t m count → isDigit b ≡ true
+      → Followed s n (t ++ (code "_" ∷ b ∷ [])) (m * 10 + (b - code "0")) (suc count)
+
+-- ---- up to the `e`
+
+-- the integer part without its sign: "one digit, or a nonzero digit followed by more, a single `_` allowed between two digits"
+pub data WholeNumber : (s : List ℕ) (m : ℕ) → Type 0 where
+  one-digit : (b : ℕ) → isDigit b ≡ true → WholeNumber (b ∷ []) (b - code "0")
+  more-digits : (b : ℕ) (s : List ℕ) (m count : ℕ) → isOneToNine b ≡ true → Followed (b ∷ []) (b - code "0") s m count → WholeNumber s m
+
+-- and a "fraction (digits, `_` between digits)" or none: the "whole number m of all its digits", and the "count of fraction digits"
+pub data Mantissa : (s : List ℕ) (m places : ℕ) → Type 0 where
+  no-fraction : (s : List ℕ) (m : ℕ) → WholeNumber s m → Mantissa s m 0
+  fraction : (whole s : List ℕ) (w m b count : ℕ) → WholeNumber whole w → isDigit b ≡ true
+      → Followed (whole ++ (code "." ∷ b ∷ [])) (w * 10 + (b - code "0")) s m count → Mantissa s m (suc count)
+
+-- all of a decimal up to and with its "`e`/`E`"
+pub data UpToE : (front : List ℕ) (minus : Bool) (m places : ℕ) → Type 0 where
+  up-to-e : (sign s : List ℕ) (minus : Bool) (m places b : ℕ) → OptionalSign sign minus → Mantissa s m places → isE b ≡ true
+      → UpToE (sign ++ (s ++ (b ∷ []))) minus m places
+
+-- ---- behind it
 
 -- "one or more digits, with a single underscore allowed between digits, and leading zeros allowed", and the number that they write
-pub data Digits : (s : List ℕ) (value : ℕ) → Type 0 where
-  one : (b : ℕ) → isDigit b ≡ true → Digits (b ∷ []) (b - code "0")
-  more : (s : List ℕ) (value b : ℕ) → Digits s value → isDigit b ≡ true → Digits (s ++ (b ∷ [])) (value * 10 + (b - code "0"))
-  after-underscore : (s : List ℕ) (value b : ℕ) → Digits s value → isDigit b ≡ true
-      → Digits (s ++ (code "_" ∷ b ∷ [])) (value * 10 + (b - code "0"))
+pub data Digits : (s : List ℕ) (n : ℕ) → Type 0 where
+  digits : (b : ℕ) (s : List ℕ) (n count : ℕ) → isDigit b ≡ true → Followed (b ∷ []) (b - code "0") s n count → Digits s n
 
--- "an exponent is an optional sign and one or more digits", and the power of ten that it names
-pub data Exponent : (s : List ℕ) (power : ℤ) → Type 0 where
-  exponent : (sign digits : List ℕ) (minus : Bool) (value : ℕ) → OptionalSign sign minus → Digits digits value
-      → Exponent (sign ++ digits) (signedBy minus value)
+-- "an exponent is an optional sign and one or more digits", and its value
+pub data Exponent : (s : List ℕ) (value : ℤ) → Type 0 where
+  exponent : (sign s : List ℕ) (below : Bool) (n : ℕ) → OptionalSign sign below → Digits s n → Exponent (sign ++ s) (signedBy below n)
 
 -- ---- what is claimed
 
--- the bytes up to the `e` of a number, and with it: its sign, the whole number m of its digits, and how many of them are fraction digits
-abbrev pub UpToE : (front : List ℕ) (minus : Bool) (m places : ℕ) → Type 0
-UpToE front minus m places = feed numberStep Start front ≡ Mark minus m places
-
--- what follows is an exponent, and the number is a decimal with "p = exponent minus count of fraction digits", or too wide; or it is no
--- exponent, and the number is malformed
+-- behind the `e` an exponent is taken, and the number is the decimal with "power of ten p = exponent minus count of fraction digits", or too
+-- wide; with anything else there the number is malformed
 pub record ByTheRule (front : List ℕ) (minus : Bool) (m places : ℕ) : Type 0 where
-  pub taken : (s : List ℕ) (power : ℤ) → Exponent s power → number (front ++ s) ≡ asDecimal minus m (power +ℤ negℤ (pos places))
-  pub malformed : (s : List ℕ) → ((power : ℤ) → Exponent s power → ⊥) → number (front ++ s) ≡ Malformed
+  pub taken : (s : List ℕ) (value : ℤ) → Exponent s value → number (front ++ s) ≡ asDecimal minus m (value +ℤ negℤ (pos places))
+  pub malformed : (s : List ℕ) → ((value : ℤ) → Exponent s value → ⊥) → number (front ++ s) ≡ Malformed
 
 -- "From now an exponent is an optional sign and one or more digits .."
 unfoldable pub ExponentsRead : Type 0
@@ -59,8 +80,8 @@ ExponentsRead = (front : List ℕ) (minus : Bool) (m places : ℕ) → UpToE fro
 unfoldable pub LeadingZeros : Type 0
 LeadingZeros =
     (front : List ℕ) (minus : Bool) (m places : ℕ) → UpToE front minus m places
-    → (sign digits : List ℕ) (below : Bool) (value count : ℕ) → OptionalSign sign below → Digits digits value
-    → number (front ++ (sign ++ (replicate count (code "0") ++ digits))) ≡ number (front ++ (sign ++ digits))
+    → (sign s : List ℕ) (below : Bool) (n count : ℕ) → OptionalSign sign below → Digits s n
+    → number (front ++ (sign ++ (replicate count (code "0") ++ s))) ≡ number (front ++ (sign ++ s))
 
 -- ---- examples
 
@@ -83,10 +104,12 @@ pub record ExponentsByHand : Type 0 where
   pub request : tableOf 24 (read "[1e06]") ≡ rowsOfRequest
   pub integer-part : read "[01e6]" ≡ refused 3 1
   -- "leading zeros allowed"
-  pub zero : meant "0e0" ≡ Decimal false 0 (pos 0)
+  pub after-zero : meant "0e06" ≡ Decimal false 0 (pos 6)
+  pub after-capital : meant "-12E06" ≡ Decimal true 12 (pos 6)
+  pub after-plus : meant "+1e+06" ≡ Decimal false 1 (pos 6)
+  pub after-minus : meant "-1.50e-007" ≡ Decimal true 150 (negsuc 8)
   pub zeros-alone : meant "1e-00" ≡ Decimal false 1 (pos 0)
-  pub after-plus : meant "1e+06" ≡ Decimal false 1 (pos 6)
-  pub after-minus : meant "-1.50E-007" ≡ Decimal true 150 (negsuc 8)
+  pub one-zero : meant "0e0" ≡ Decimal false 0 (pos 0)
   -- "a single underscore allowed between digits"
   pub underscore : meant "1e0_6" ≡ Decimal false 1 (pos 6)
   pub first-underscore : meant "1e_5" ≡ Malformed
@@ -97,7 +120,7 @@ pub record ExponentsByHand : Type 0 where
   pub no-digit : meant "1e" ≡ Malformed
   pub sign-alone : meant "1e+" ≡ Malformed
   pub letter : meant "1e0x" ≡ Malformed
-  pub fraction : meant "1e0.5" ≡ Malformed
+  pub point : meant "1e0.5" ≡ Malformed
   -- "an exponent of very many zeros must not trip 5": any count of them
   pub very-many : (count : ℕ) → number (ascii "1e" ++ (replicate count (code "0") ++ ascii "6")) ≡ Decimal false 1 (pos 6)
   pub very-many-alone : (count : ℕ) → number (ascii "1e-" ++ (replicate count (code "0") ++ ascii "0")) ≡ Decimal false 1 (pos 0)

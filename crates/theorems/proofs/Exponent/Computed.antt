@@ -1,14 +1,22 @@
 -- The examples of Req 02, by computation; those of any count of zeros by the law of leading zeros.
 -- Assumes nothing.
-use mathlib.Core.Path.{_≡_, refl, _∙_}
-use Prim.Native.Nat.{ℕ}
-use mathlib.Core.Bool.{Bool, true, false}
-use mathlib.Core.List.{[], _∷_}
+use mathlib.Core.Path.{refl}
+use mathlib.Core.Bool.{true, false}
+use mathlib.Core.List.{[]}
 use Rattle.text.specs.Bytes.{ascii}
-use Rattle.literals.specs.Number.{isSign}
 use Rattle.reader.proofs.Computing.{readings}
-use Rattle.theorems.specs.Exponent.{none, sign, one, LeadingZeros, ExponentsByHand}
+use Rattle.theorems.specs.Exponent.{none, signed, by-none, one-digit, no-fraction, UpToE, up-to-e, Digits, digits, LeadingZeros, ExponentsByHand}
 use Rattle.theorems.proofs.Exponent.RuleLaw.{leading-zeros}
+
+-- `1e`, and a digit behind it
+one-e : UpToE (ascii "1e") false 1 0
+one-e = up-to-e [] (ascii "1") false 1 0 101 none (no-fraction (ascii "1") 1 (one-digit 49 refl)) refl
+
+six : Digits (ascii "6") 6
+six = digits 54 (ascii "6") 6 0 refl by-none
+
+nought : Digits (ascii "0") 0
+nought = digits 48 (ascii "0") 0 0 refl by-none
 
 pub exponents-by-hand : ExponentsByHand
 unfolding readings LeadingZeros
@@ -16,10 +24,12 @@ exponents-by-hand =
     record {
       request = refl;
       integer-part = refl;
-      zero = refl;
-      zeros-alone = refl;
+      after-zero = refl;
+      after-capital = refl;
       after-plus = refl;
       after-minus = refl;
+      zeros-alone = refl;
+      one-zero = refl;
       underscore = refl;
       first-underscore = refl;
       last-underscore = refl;
@@ -28,9 +38,9 @@ exponents-by-hand =
       no-digit = refl;
       sign-alone = refl;
       letter = refl;
-      fraction = refl;
-      very-many = λ count. leading-zeros (ascii "1e") false 1 0 refl [] (ascii "6") false 6 count none (one 54 refl);
-      very-many-alone = λ count. leading-zeros (ascii "1e") false 1 0 refl (ascii "-") (ascii "0") true 0 count (sign 45 refl) (one 48 refl);
+      point = refl;
+      very-many = λ count. leading-zeros (ascii "1e") false 1 0 one-e [] (ascii "6") false 6 count none six;
+      very-many-alone = λ count. leading-zeros (ascii "1e") false 1 0 one-e (ascii "-") (ascii "0") true 0 count (signed 45 refl) nought;
       highest = refl;
       too-high = refl;
       lowest = refl;
