@@ -1,7 +1,9 @@
--- Req 02: a decimal with an exponent, in the papers' own words and apart from the machine that reads numbers: what may stand behind its
--- `e` and what it then means; that leading zeros change nothing; and both on numbers that are worked out by hand. Shared with the machine
--- are the tests of a byte (`isSign`, `isOneToNine`, `isE`), `signedBy`, and the ranges (`asDecimal`). By its contract `number_of`
--- (literals/src/number.rt) answers `number`.
+-- Req 02: decimals with an exponent by their grammar, in the papers' own words and apart from the machine that reads numbers: what stands up to
+-- the `e`, what may stand behind it, and what the number then means; that leading zeros of the exponent change nothing; and both on numbers
+-- that are worked out by hand. Of a number with something else up to its `e`, as in `01e6`, nothing is claimed here but one example.
+-- Shared with the machine are the tests of a byte (`isDigit`, `isSign`, `isOneToNine`, `isE`, `is`), `signedBy`, and the ranges (`asDecimal`).
+-- By its contract `number_of` (literals/src/number.rt) answers `number`, and a number in a text means `number` of its bytes (`numberItem`
+-- in lexer/specs/Token.antt).
 -- Assumes nothing.
 use mathlib.Core.Path.{_≡_}
 use Prim.Native.Nat.{ℕ, suc, _+_, _-_, _*_}
@@ -19,15 +21,15 @@ use Rattle.literals.specs.Number.{isSign, isOneToNine, isE, signedBy, asDecimal
 use Rattle.reader.specs.Syntax.{Outcome, refused}
 use Rattle.reader.specs.Reading.{reading, tableOf}
 
--- ---- digits and signs
+-- ---- signs and digits
 
 -- "optional sign", and whether it is a minus
 pub data OptionalSign : (s : List ℕ) (minus : Bool) → Type 0 where
   none : OptionalSign [] false
   signed : (b : ℕ) → isSign b ≡ true → OptionalSign (b ∷ []) (is "-" b)
 
--- bytes s that write the number n, followed by so many digits more, "with a single underscore allowed between digits": the bytes t, which write
--- the number m
+-- "followed by more, a single `_` allowed between two digits": the bytes s, which end with a digit, and then `count` digits more, are the
+-- bytes t. The digits of s make the whole number n, and those of t make m
 pub data Followed (s : List ℕ) (n : ℕ) : (t : List ℕ) (m count : ℕ) → Type 0 where
   by-none : Followed s n s n 0
   by-digit : (t : List ℕ) (m count b : ℕ) → Followed s n t m count → isDigit b ≡ true
@@ -37,16 +39,17 @@ pub data Followed (s : List ℕ) (n : ℕ) : (t : List ℕ) (m count : ℕ) → 
 
 -- ---- up to the `e`
 
--- the integer part without its sign: "one digit, or a nonzero digit followed by more, a single `_` allowed between two digits"
-pub data WholeNumber : (s : List ℕ) (m : ℕ) → Type 0 where
-  one-digit : (b : ℕ) → isDigit b ≡ true → WholeNumber (b ∷ []) (b - code "0")
-  more-digits : (b : ℕ) (s : List ℕ) (m count : ℕ) → isOneToNine b ≡ true → Followed (b ∷ []) (b - code "0") s m count → WholeNumber s m
+-- the integer part without its sign: "one digit, or a nonzero digit followed by more"
+pub data IntegerPart : (s : List ℕ) (n : ℕ) → Type 0 where
+  one-digit : (b : ℕ) → isDigit b ≡ true → IntegerPart (b ∷ []) (b - code "0")
+  more-digits : (b : ℕ) (s : List ℕ) (n count : ℕ) → isOneToNine b ≡ true → Followed (b ∷ []) (b - code "0") s n count → IntegerPart s n
 
--- and a "fraction (digits, `_` between digits)" or none: the "whole number m of all its digits", and the "count of fraction digits"
+-- an integer part, and a "fraction (digits, `_` between digits)" or none: the "whole number m of all its digits", and the "count of fraction
+-- digits"
 pub data Mantissa : (s : List ℕ) (m places : ℕ) → Type 0 where
-  no-fraction : (s : List ℕ) (m : ℕ) → WholeNumber s m → Mantissa s m 0
-  fraction : (whole s : List ℕ) (w m b count : ℕ) → WholeNumber whole w → isDigit b ≡ true
-      → Followed (whole ++ (code "." ∷ b ∷ [])) (w * 10 + (b - code "0")) s m count → Mantissa s m (suc count)
+  no-fraction : (s : List ℕ) (n : ℕ) → IntegerPart s n → Mantissa s n 0
+  fraction : (s t : List ℕ) (n m b count : ℕ) → IntegerPart s n → isDigit b ≡ true
+      → Followed (s ++ (code "." ∷ b ∷ [])) (n * 10 + (b - code "0")) t m count → Mantissa t m (suc count)
 
 -- all of a decimal up to and with its "`e`/`E`"
 pub data UpToE : (front : List ℕ) (minus : Bool) (m places : ℕ) → Type 0 where
@@ -55,18 +58,18 @@ pub data UpToE : (front : List ℕ) (minus : Bool) (m places : ℕ) → Type 0 w
 
 -- ---- behind it
 
--- "one or more digits, with a single underscore allowed between digits, and leading zeros allowed", and the number that they write
+-- "one or more digits, with a single underscore allowed between digits, and leading zeros allowed", and the number that they make
 pub data Digits : (s : List ℕ) (n : ℕ) → Type 0 where
   digits : (b : ℕ) (s : List ℕ) (n count : ℕ) → isDigit b ≡ true → Followed (b ∷ []) (b - code "0") s n count → Digits s n
 
--- "an exponent is an optional sign and one or more digits", and its value
+-- "an exponent is an optional sign and one or more digits", and its value; `below` is its minus
 pub data Exponent : (s : List ℕ) (value : ℤ) → Type 0 where
   exponent : (sign s : List ℕ) (below : Bool) (n : ℕ) → OptionalSign sign below → Digits s n → Exponent (sign ++ s) (signedBy below n)
 
 -- ---- what is claimed
 
--- behind the `e` an exponent is taken, and the number is the decimal with "power of ten p = exponent minus count of fraction digits", or too
--- wide; with anything else there the number is malformed
+-- behind such a front an exponent is taken, and the number is the decimal with "power of ten p = exponent minus count of fraction digits", or
+-- too wide; with anything else behind it the number is malformed
 pub record ByTheRule (front : List ℕ) (minus : Bool) (m places : ℕ) : Type 0 where
   pub taken : (s : List ℕ) (value : ℤ) → Exponent s value → number (front ++ s) ≡ asDecimal minus m (value +ℤ negℤ (pos places))
   pub malformed : (s : List ℕ) → ((value : ℤ) → Exponent s value → ⊥) → number (front ++ s) ≡ Malformed
@@ -75,8 +78,8 @@ pub record ByTheRule (front : List ℕ) (minus : Bool) (m places : ℕ) : Type 0
 unfoldable pub ExponentsRead : Type 0
 ExponentsRead = (front : List ℕ) (minus : Bool) (m places : ℕ) → UpToE front minus m places → ByTheRule front minus m places
 
--- "an exponent of very many zeros must not trip 5": with any count of zeros before its digits a number means what it means without them.
--- Zeros alone are zeros before a last one
+-- "an exponent of very many zeros must not trip 5": with any count of zeros put before the digits of its exponent, a number means what it
+-- means without them. So an exponent of zeros alone means what `0` does
 unfoldable pub LeadingZeros : Type 0
 LeadingZeros =
     (front : List ℕ) (minus : Bool) (m places : ℕ) → UpToE front minus m places
@@ -85,6 +88,7 @@ LeadingZeros =
 
 -- ---- examples
 
+-- what a number token means
 abbrev pub meant : String → Meaning
 meant s = number (ascii s)
 
@@ -98,7 +102,7 @@ rowsOfRequest =
     2 ∷ 4294967295 ∷ 0 ∷ 6 ∷ 0 ∷ 0 ∷ 0 ∷ 0 ∷ 2 ∷ 1 ∷ 0 ∷ 0
     ∷ 7 ∷ 0 ∷ 1 ∷ 5 ∷ 0 ∷ 0 ∷ 0 ∷ 0 ∷ 2 ∷ 1 ∷ 0 ∷ 1006 ∷ []
 
--- the sentences of the request on some numbers, worked out by hand
+-- the request, and what it leaves as document 01 has it, on some numbers that are worked out by hand
 pub record ExponentsByHand : Type 0 where
   -- "`[1e06]` gives m 1 and word 11 at 1006. `[01e6]` stays refused with 3 at 1"
   pub request : tableOf 24 (read "[1e06]") ≡ rowsOfRequest
@@ -109,24 +113,30 @@ pub record ExponentsByHand : Type 0 where
   pub after-plus : meant "+1e+06" ≡ Decimal false 1 (pos 6)
   pub after-minus : meant "-1.50e-007" ≡ Decimal true 150 (negsuc 8)
   pub zeros-alone : meant "1e-00" ≡ Decimal false 1 (pos 0)
-  pub one-zero : meant "0e0" ≡ Decimal false 0 (pos 0)
   -- "a single underscore allowed between digits"
   pub underscore : meant "1e0_6" ≡ Decimal false 1 (pos 6)
   pub first-underscore : meant "1e_5" ≡ Malformed
   pub last-underscore : meant "1e5_" ≡ Malformed
   pub two-underscores : meant "1e5__0" ≡ Malformed
   pub signed-underscore : meant "1e+_1" ≡ Malformed
-  -- "one or more digits"
+  -- "one or more digits", and nothing else
+  pub one-zero : meant "0e0" ≡ Decimal false 0 (pos 0)
   pub no-digit : meant "1e" ≡ Malformed
   pub sign-alone : meant "1e+" ≡ Malformed
   pub letter : meant "1e0x" ≡ Malformed
   pub point : meant "1e0.5" ≡ Malformed
+  pub point-first : meant "1e.5" ≡ Malformed
   -- "an exponent of very many zeros must not trip 5": any count of them
   pub very-many : (count : ℕ) → number (ascii "1e" ++ (replicate count (code "0") ++ ascii "6")) ≡ Decimal false 1 (pos 6)
   pub very-many-alone : (count : ℕ) → number (ascii "1e-" ++ (replicate count (code "0") ++ ascii "0")) ≡ Decimal false 1 (pos 0)
-  -- it is p whose range counts, and 3 goes before 5
+  -- "m over 9223372036854775807, or p outside -400..400, is refused with 5": p, and not the exponent
   pub highest : meant "1.0e0401" ≡ Decimal false 10 (pos 400)
   pub too-high : meant "1e0401" ≡ TooWide
   pub lowest : meant "1e-0400" ≡ Decimal false 1 (negsuc 399)
   pub too-low : meant "1.0e-0400" ≡ TooWide
+  pub zero-highest : meant "-0e0400" ≡ Decimal true 0 (pos 400)
+  pub zero-too-high : meant "-0e0401" ≡ TooWide
+  pub widest : meant "9223372036854775807e09" ≡ Decimal false 9223372036854775807 (pos 9)
+  pub too-wide : meant "9223372036854775808e09" ≡ TooWide
+  -- 3 goes before 5
   pub malformed-first : meant "1e0999_" ≡ Malformed

@@ -15,7 +15,7 @@ use Rattle.text.proofs.FeedLaws.{feed-append}
 use Rattle.literals.specs.declared.number.Number.{Number}
 use Rattle.literals.specs.declared.number.Number.the-variants.{Start, Sign, Zero, Digit, Gap, Dot, Fraction, FractionGap, Mark}
 use Rattle.literals.specs.Number.{isSign, isOneToNine, isE, numberStep}
-use Rattle.theorems.specs.Exponent.{none, signed, WholeNumber, one-digit, more-digits, Mantissa, no-fraction, fraction, UpToE, up-to-e}
+use Rattle.theorems.specs.Exponent.{none, signed, IntegerPart, one-digit, more-digits, Mantissa, no-fraction, fraction, UpToE, up-to-e}
 use Rattle.theorems.proofs.Exponent.DigitLaws.{digit-value, digit-in, one-is-digit, other-digit, e-case, followed-fed}
 
 module _ (minus : Bool) where
@@ -69,7 +69,7 @@ module _ (minus : Bool) where
   -- from a state in which an integer part may begin
   module _ (n : Number) (sg : Bool) (at-zero : numberStep n (code "0") ≡ Zero sg minus)
       (at-one : (b : ℕ) → isOneToNine b ≡ true → numberStep n b ≡ Digit minus (b - code "0")) where
-    whole-fed : (s : List ℕ) (m : ℕ) → WholeNumber s m → Ends (feed numberStep n s) m
+    whole-fed : (s : List ℕ) (m : ℕ) → IntegerPart s m → Ends (feed numberStep n s) m
     unfolding feed
     whole-fed s m (one-digit b e) = by-zero (is "0" b) refl
       where
