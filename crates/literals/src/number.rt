@@ -368,7 +368,7 @@ fn mark_step(minus: bool, m: u64, places: u64, b: u8) -> Number
             below: true,
         };
     }
-    // no sign: a first digit, as after a `+`
+    // no sign: judged as a first digit, as after a `+`
     exp_sign_step(minus, m, places, false, b)
 }
 
@@ -400,7 +400,7 @@ fn exp_digit_step(minus: bool, m: u64, places: u64, below: bool, exp: u64, b: u8
             exp,
         };
     }
-    // no underscore: a digit, as after one
+    // no underscore: judged as a digit, as after one
     exp_gap_step(minus, m, places, below, exp, b)
 }
 
