@@ -1,6 +1,6 @@
 -- The proofs of what specs/ claims, and the laws that only they need.
 pub mod Utf8
-pub mod Exponent
+pub mod Number
 pub mod Insertion
 pub mod Nesting
 pub mod CallLaws

@@ -1,5 +1,6 @@
--- The rule of exponents: digits, a decimal up to its `e`, what is behind it; and the examples.
+-- Numbers by their grammar: digits; a number of the grammar has its meaning; any other is malformed; leading zeros; and the examples.
 pub mod DigitLaws
-pub mod FrontLaw
-pub mod RuleLaw
+pub mod MeantLaw
+pub mod MalformedLaw
+pub mod ZerosLaw
 pub mod Computed

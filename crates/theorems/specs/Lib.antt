@@ -1,6 +1,6 @@
 -- What is claimed of the definitions and of the calls by their contracts, beside the sentences that ask for it.
 pub mod Utf8
-pub mod Exponent
+pub mod Number
 pub mod Insertion
 pub mod Nesting
 pub mod Calls

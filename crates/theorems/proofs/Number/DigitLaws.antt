@@ -1,109 +1,104 @@
--- Digits: of the class and of the machine that reads numbers; digits that follow others; zeros in front.
+-- Digits: which bytes are digits; digits that follow others, under the machine that reads numbers; a digit more.
 -- Assumes nothing.
 use mathlib.Core.Path.{_≡_, refl, sym, ap, _∙_, subst}
-use Prim.Native.Nat.{ℕ, zero, suc, _+_, _-_, _*_, _≤_}
+use Prim.Native.Nat.{ℕ, suc, _+_, _-_, _*_, _≤_}
 use Prim.Native.Char.{code}
 use native.Mathlib.Omega.{arith}
-use mathlib.Core.Bool.{Bool, true, false}
+use mathlib.Core.Bool.{Bool, true, false, true≢false}
 use mathlib.Core.List.{List, [], _∷_, _++_}
 use lib.Dec.{T, leb}
-use lib.ListN.{replicate}
-use borrow.Author.Tests.{leb-true, eqb-true, eqb-false, le-leb, lt-ltb, le-ltb}
+use borrow.Author.Tests.{leb-true, eqb-true, eqb-false, le-leb, le-ltb}
 use Rattle.text.specs.Bytes.{feed, is, between, isDigit, isDigitIn, digitValue}
 use Rattle.text.proofs.Choice.{cond-both, is-true, and-left, and-right, or-case}
 use Rattle.text.proofs.FeedLaws.{feed-append}
 use Rattle.literals.specs.declared.number.Number.{Number}
 use Rattle.literals.specs.Number.{isOneToNine, isE, numberStep}
-use Rattle.theorems.specs.Exponent.{Followed, by-none, by-digit, by-underscore, Digits, digits}
+use Rattle.theorems.specs.Number.{Followed, by-none, by-digit, by-underscore, Digits, digits, WithFraction, with-fraction}
 
 -- ---- bytes
 
--- a digit is 0 to 9
-pub digit-least : (b : ℕ) → isDigit b ≡ true → 48 ≤ b
-digit-least b e = leb-true 48 b (and-left (leb 48 b) (leb b 57) e)
-
-digit-most : (b : ℕ) → isDigit b ≡ true → b ≤ 57
-digit-most b e = leb-true b 57 (and-right (leb 48 b) (leb b 57) e)
-
-pub digit-value : (b : ℕ) → isDigit b ≡ true → digitValue b ≡ b - code "0"
+-- a digit in base 10 is 0 to 9
+is-digit : (b : ℕ) → isDigitIn 10 b ≡ true → isDigit b ≡ true
 unfolding digitValue
-digit-value b e = rw e
-
--- the machine's digits in base 10 are these
-digit-same : (b : ℕ) → isDigitIn 10 b ≡ isDigit b
-unfolding digitValue
-digit-same b = by-class (isDigit b) refl
+is-digit b e = by-class (isDigit b) refl
   where
-    by-class : (t : Bool) → isDigit b ≡ t → isDigitIn 10 b ≡ isDigit b
-    by-class true e = rw e (lt-ltb (b - 48) 10 (let h = digit-least b e in let k = digit-most b e in omega arith))
-    by-class false e =
-        rw e
-        (le-ltb _ 10
-        (cond-both (λ (x : ℕ). 10 ≤ x) (between "A" "F" b) (λ t. omega arith)
-        (λ t. cond-both (λ (x : ℕ). 10 ≤ x) (between "a" "f" b) (λ u. omega arith) (λ u. omega arith))))
+    by-class : (t : Bool) → isDigit b ≡ t → isDigit b ≡ true
+    by-class true f = f
+    by-class false f = absurd (true≢false (sym e ∙ off))
+      where
+        off : isDigitIn 10 b ≡ false
+        off =
+            rw f
+            (le-ltb _ 10
+            (cond-both (λ (x : ℕ). 10 ≤ x) (between "A" "F" b) (λ t. omega arith)
+            (λ t. cond-both (λ (x : ℕ). 10 ≤ x) (between "a" "f" b) (λ u. omega arith) (λ u. omega arith))))
 
-pub digit-in : (b : ℕ) → isDigit b ≡ true → isDigitIn 10 b ≡ true
-digit-in b e = digit-same b ∙ e
+pub digit-least : (b : ℕ) → isDigitIn 10 b ≡ true → 48 ≤ b
+digit-least b e = leb-true 48 b (and-left (leb 48 b) (leb b 57) (is-digit b e))
 
-pub is-digit : (b : ℕ) → T (isDigitIn 10 b) → isDigit b ≡ true
-is-digit b t = sym (digit-same b) ∙ is-true (isDigitIn 10 b) t
-
--- a nonzero digit is a digit, and the other one is 0
-pub one-is-digit : (b : ℕ) → isOneToNine b ≡ true → isDigit b ≡ true
-one-is-digit b e =
-    let h = leb-true 49 b (and-left (leb 49 b) (leb b 57) e) in
-    rw (le-leb 48 b (omega arith), and-right (leb 49 b) (leb b 57) e)
-
-pub other-digit : (b : ℕ) → isDigit b ≡ true → is "0" b ≡ false → isOneToNine b ≡ true
+-- a digit but 0 is a nonzero digit
+pub other-digit : (b : ℕ) → isDigitIn 10 b ≡ true → is "0" b ≡ false → isOneToNine b ≡ true
 other-digit b e f =
     let h = digit-least b e in
     let n = eqb-false b 48 f in
-    rw (le-leb 49 b (omega (arith, n)), and-right (leb 48 b) (leb b 57) e)
+    rw (le-leb 49 b (omega (arith, n)), and-right (leb 48 b) (leb b 57) (is-digit b e))
 
--- what holds of `e` and of `E`
+-- what holds of `e` and of `E` holds of a byte that is one of them
 pub e-case : (P : ℕ → Type 0) (b : ℕ) → isE b ≡ true → P (code "e") → P (code "E") → P b
 e-case P b e small capital =
     or-case (is "e" b) (is "E" b) (P b) (subst T (sym e) tt) (λ t. subst P (sym (eqb-true b 101 (is-true (is "e" b) t))) small)
     (λ t. subst P (sym (eqb-true b 69 (is-true (is "E" b) t))) capital)
 
--- ---- digits that follow
+-- ---- digits under the machine
 
--- the machine over them, by its states for what has been read
-pub followed-fed : (n : Number) (state : ℕ → ℕ → Number)
-    → ((m count b : ℕ) → isDigit b ≡ true → numberStep (state m count) b ≡ state (m * 10 + (b - code "0")) (suc count))
-    → ((m count b : ℕ) → isDigit b ≡ true → numberStep (numberStep (state m count) (code "_")) b ≡ state (m * 10 + (b - code "0")) (suc count))
-    → (s : List ℕ) (v : ℕ) → feed numberStep n s ≡ state v 0 → (t : List ℕ) (m count : ℕ) → Followed s v t m count
-    → feed numberStep n t ≡ state m count
-unfolding feed
-followed-fed n state f g s v h t m count by-none = h
-followed-fed n state f g s v h t m count (by-digit u k j b d e) =
-    feed-append numberStep n u (b ∷ [])
-    ∙ ap (λ (x : Number). numberStep x b) (followed-fed n state f g s v h u k j d)
-    ∙ f k j b e
-followed-fed n state f g s v h t m count (by-underscore u k j b d e) =
-    feed-append numberStep n u (95 ∷ b ∷ [])
-    ∙ ap (λ (x : Number). numberStep (numberStep x 95) b) (followed-fed n state f g s v h u k j d)
-    ∙ g k j b e
+module _ (base : ℕ) where
+  -- digits that follow: the machine's state by the number that the digits make, and by how many have followed
+  pub followed-fed : (n : Number) (state : ℕ → ℕ → Number)
+      → ((m count b : ℕ) → isDigitIn base b ≡ true → numberStep (state m count) b ≡ state (m * base + digitValue b) (suc count))
+      → ((m count b : ℕ) → isDigitIn base b ≡ true → numberStep (numberStep (state m count) (code "_")) b ≡ state (m * base + digitValue b) (suc count))
+      → (s : List ℕ) (v : ℕ) → feed numberStep n s ≡ state v 0 → (t : List ℕ) (m count : ℕ) → Followed base s v t m count
+      → feed numberStep n t ≡ state m count
+  unfolding feed
+  followed-fed n state f g s v h t m count by-none = h
+  followed-fed n state f g s v h t m count (by-digit u k j b d e) =
+      feed-append numberStep n u (b ∷ [])
+      ∙ ap (λ (x : Number). numberStep x b) (followed-fed n state f g s v h u k j d)
+      ∙ f k j b e
+  followed-fed n state f g s v h t m count (by-underscore u k j b d e) =
+      feed-append numberStep n u (95 ∷ b ∷ [])
+      ∙ ap (λ (x : Number). numberStep (numberStep x 95) b) (followed-fed n state f g s v h u k j d)
+      ∙ g k j b e
 
--- a zero in front
-zero-more : (b : ℕ) → isDigit b ≡ true → (s : List ℕ) (n count : ℕ) → Followed (b ∷ []) (b - code "0") s n count
-    → Followed (code "0" ∷ []) 0 (code "0" ∷ s) n (suc count)
-zero-more b e s n count by-none =
-    let z : 0 * 10 + (b - 48) ≡ b - 48 = omega arith in
-    subst (λ (x : ℕ). Followed (48 ∷ []) 0 (48 ∷ b ∷ []) x 1) z (by-digit (48 ∷ []) 0 0 b by-none e)
-zero-more b e s n count (by-digit t m k c d f) = by-digit (48 ∷ t) m (suc k) c (zero-more b e t m k d) f
-zero-more b e s n count (by-underscore t m k c d f) = by-underscore (48 ∷ t) m (suc k) c (zero-more b e t m k d) f
+  -- one or more digits, from a state n that takes a first one
+  pub digits-fed : (n : Number) (state : ℕ → Number)
+      → ((b : ℕ) → isDigitIn base b ≡ true → numberStep n b ≡ state (digitValue b))
+      → ((m count b : ℕ) → isDigitIn base b ≡ true → numberStep (state m) b ≡ state (m * base + digitValue b))
+      → ((m count b : ℕ) → isDigitIn base b ≡ true → numberStep (numberStep (state m) (code "_")) b ≡ state (m * base + digitValue b))
+      → (s : List ℕ) (m : ℕ) → Digits base s m → feed numberStep n s ≡ state m
+  unfolding feed
+  digits-fed n state first f g s m (digits b t k count e d) =
+      followed-fed n (λ (x y : ℕ). state x) f g (b ∷ []) (digitValue b) (first b e) t k count d
 
-pub zeros-more : (count : ℕ) (s : List ℕ) (n : ℕ) → Digits s n → Digits (replicate count (code "0") ++ s) n
-zeros-more zero s n d = d
-zeros-more (suc count) s n d = with-zero (replicate count 48 ++ s) (zeros-more count s n d)
-  where
-    with-zero : (t : List ℕ) → Digits t n → Digits (48 ∷ t) n
-    with-zero t (digits b u v k e f) = digits 48 (48 ∷ u) v (suc k) refl (zero-more b e u v k f)
+  -- ---- a digit more
 
--- one digit more
-pub digit-more : (s : List ℕ) (n b : ℕ) → Digits s n → isDigit b ≡ true → Digits (s ++ (b ∷ [])) (n * 10 + (b - code "0"))
-digit-more s n b (digits c u v k e f) g = digits c (u ++ (b ∷ [])) (v * 10 + (b - 48)) (suc k) e (by-digit u v k b f g)
+  -- one digit, and one digit more, behind an underscore or not
+  pub digit-alone : (b : ℕ) → isDigitIn base b ≡ true → Digits base (b ∷ []) (digitValue b)
+  digit-alone b e = digits b (b ∷ []) (digitValue b) 0 e by-none
 
-pub underscore-more : (s : List ℕ) (n b : ℕ) → Digits s n → isDigit b ≡ true → Digits (s ++ (code "_" ∷ b ∷ [])) (n * 10 + (b - code "0"))
-underscore-more s n b (digits c u v k e f) g = digits c (u ++ (95 ∷ b ∷ [])) (v * 10 + (b - 48)) (suc k) e (by-underscore u v k b f g)
+  pub digit-more : (s : List ℕ) (n b : ℕ) → Digits base s n → isDigitIn base b ≡ true → Digits base (s ++ (b ∷ [])) (n * base + digitValue b)
+  digit-more s n b (digits c u v k e f) g = digits c (u ++ (b ∷ [])) (v * base + digitValue b) (suc k) e (by-digit u v k b f g)
+
+  pub underscore-more : (s : List ℕ) (n b : ℕ) → Digits base s n → isDigitIn base b ≡ true
+      → Digits base (s ++ (code "_" ∷ b ∷ [])) (n * base + digitValue b)
+  underscore-more s n b (digits c u v k e f) g = digits c (u ++ (95 ∷ b ∷ [])) (v * base + digitValue b) (suc k) e (by-underscore u v k b f g)
+
+-- the same of a fraction
+pub fraction-more : (s : List ℕ) (m places b : ℕ) → WithFraction s m places → isDigitIn 10 b ≡ true
+    → WithFraction (s ++ (b ∷ [])) (m * 10 + digitValue b) (suc places)
+fraction-more s m places b (with-fraction w t n k c count h d f) e =
+    with-fraction w (t ++ (b ∷ [])) n (k * 10 + digitValue b) c (suc count) h d (by-digit t k count b f e)
+
+pub fraction-underscore : (s : List ℕ) (m places b : ℕ) → WithFraction s m places → isDigitIn 10 b ≡ true
+    → WithFraction (s ++ (code "_" ∷ b ∷ [])) (m * 10 + digitValue b) (suc places)
+fraction-underscore s m places b (with-fraction w t n k c count h d f) e =
+    with-fraction w (t ++ (95 ∷ b ∷ [])) n (k * 10 + digitValue b) c (suc count) h d (by-underscore t k count b f e)

@@ -1,0 +1,306 @@
+-- What is no number of the grammar is malformed: what has been read, by where the machine that reads numbers stands.
+-- Assumes nothing.
+use mathlib.Core.Path.{_≡_, refl, sym, ap, _∙_, subst}
+use Prim.Native.Nat.{ℕ, suc, _+_, _*_}
+use Prim.Native.Char.{code}
+use mathlib.Core.Bool.{Bool, true, false, cond}
+use mathlib.Core.List.{List, [], _∷_, _++_, append-assoc, append-nil}
+use lib.Dec.{T, ltb, eqb}
+use lib.IntN.{pos, negℤ, _+ℤ_}
+use borrow.Author.Tests.{eqb-true}
+use Rattle.text.specs.Bytes.{feed, is, isDigitIn, digitValue}
+use Rattle.text.proofs.Choice.{cond-both, is-true}
+use Rattle.literals.specs.declared.number.Number.{Number}
+use Rattle.literals.specs.declared.number.Number.the-variants.{Start, Bad, Sign, Zero, Digit, Gap, Dot, Prefix, Based, BasedGap, Fraction, FractionGap, Mark, ExpSign, ExpDigit, ExpGap}
+use Rattle.literals.specs.declared.number.Meaning.{Meaning}
+use Rattle.literals.specs.declared.number.Meaning.the-variants.{Malformed}
+use Rattle.literals.specs.Number.{isSign, isZero, isOneToNine, isE, baseOf, numberStep, signedBy, asInteger, asDecimal, meaning, number}
+use Rattle.theorems.specs.Number.{OptionalSign, none, signed, Followed, by-none, by-digit, by-underscore, Digits, IntegerPart, one-digit, more-digits, BaseLetter, hex, octal, binary, WithFraction, with-fraction, Mantissa, no-fraction, fraction, UpToE, up-to-e, exponent, Numeral, integer, based, without-exponent, with-exponent, NumbersRead}
+use Rattle.theorems.proofs.Number.DigitLaws.{digit-alone, digit-more, underscore-more, fraction-more, fraction-underscore}
+use Rattle.theorems.proofs.Number.MeantLaw.{numeral-meant}
+
+-- whether a sign stands there
+abbrev hasSign : List ℕ → Bool
+hasSign [] = false
+hasSign (b ∷ s) = true
+
+-- the bytes that have been read, and the machine's state
+data Read : List ℕ → Number → Type 0 where
+  at-start : Read [] Start
+  at-sign : (b : ℕ) → isSign b ≡ true → Read (b ∷ []) (Sign (is "-" b))
+  at-zero : (sg : List ℕ) (minus : Bool) → OptionalSign sg minus → Read (sg ++ (code "0" ∷ [])) (Zero (hasSign sg) minus)
+  at-digit : (sg s : List ℕ) (minus : Bool) (c m count : ℕ) → OptionalSign sg minus → isOneToNine c ≡ true
+      → Followed 10 (c ∷ []) (digitValue c) s m count → Read (sg ++ s) (Digit minus m)
+  at-gap : (sg s : List ℕ) (minus : Bool) (c m count : ℕ) → OptionalSign sg minus → isOneToNine c ≡ true
+      → Followed 10 (c ∷ []) (digitValue c) s m count → Read ((sg ++ s) ++ (code "_" ∷ [])) (Gap minus m)
+  at-dot : (sg s : List ℕ) (minus : Bool) (m : ℕ) → OptionalSign sg minus → IntegerPart s m → Read ((sg ++ s) ++ (code "." ∷ [])) (Dot minus m)
+  at-fraction : (sg s : List ℕ) (minus : Bool) (m places : ℕ) → OptionalSign sg minus → WithFraction s m places
+      → Read (sg ++ s) (Fraction minus m places)
+  at-fraction-gap : (sg s : List ℕ) (minus : Bool) (m places : ℕ) → OptionalSign sg minus → WithFraction s m places
+      → Read ((sg ++ s) ++ (code "_" ∷ [])) (FractionGap minus m places)
+  at-prefix : (c base : ℕ) → BaseLetter c base → Read (code "0" ∷ c ∷ []) (Prefix base)
+  at-based : (c base : ℕ) (s : List ℕ) (n : ℕ) → BaseLetter c base → Digits base s n → Read (code "0" ∷ c ∷ s) (Based base n)
+  at-based-gap : (c base : ℕ) (s : List ℕ) (n : ℕ) → BaseLetter c base → Digits base s n
+      → Read (code "0" ∷ c ∷ (s ++ (code "_" ∷ []))) (BasedGap base n)
+  at-mark : (front : List ℕ) (minus : Bool) (m places : ℕ) → UpToE front minus m places → Read front (Mark minus m places)
+  at-exponent-sign : (front : List ℕ) (minus : Bool) (m places c : ℕ) → UpToE front minus m places → isSign c ≡ true
+      → Read (front ++ (c ∷ [])) (ExpSign minus m places (is "-" c))
+  at-exponent : (front sg s : List ℕ) (minus : Bool) (m places : ℕ) (below : Bool) (n : ℕ) → UpToE front minus m places → OptionalSign sg below
+      → Digits 10 s n → Read (front ++ (sg ++ s)) (ExpDigit minus m places below n)
+  at-exponent-gap : (front sg s : List ℕ) (minus : Bool) (m places : ℕ) (below : Bool) (n : ℕ) → UpToE front minus m places
+      → OptionalSign sg below → Digits 10 s n → Read ((front ++ (sg ++ s)) ++ (code "_" ∷ [])) (ExpGap minus m places below n)
+  at-bad : (s : List ℕ) → Read s Bad
+
+-- ---- bytes that have one meaning in several states
+
+-- what holds of a byte holds of one that is the same
+from-byte : (P : ℕ → Type 0) (c b : ℕ) → T (eqb b c) → P c → P b
+from-byte P c b t p = subst P (sym (eqb-true b c (is-true (eqb b c) t))) p
+
+-- the same bytes, put together otherwise
+again : (s t : List ℕ) (x : Number) → s ≡ t → Read s x → Read t x
+again s t x e r = subst (λ (l : List ℕ). Read l x) e r
+
+after-gap : (a s : List ℕ) (b : ℕ) → ((a ++ s) ++ (code "_" ∷ [])) ++ (b ∷ []) ≡ a ++ (s ++ (code "_" ∷ b ∷ []))
+after-gap a s b = append-assoc (a ++ s) (95 ∷ []) (b ∷ []) ∙ append-assoc a s (95 ∷ b ∷ [])
+
+after-two : (a s t u : List ℕ) → (a ++ (s ++ t)) ++ u ≡ a ++ (s ++ (t ++ u))
+after-two a s t u = append-assoc a (s ++ t) u ∙ ap (λ (l : List ℕ). a ++ l) (append-assoc s t u)
+
+-- the first digit of an integer part
+begun : (sg : List ℕ) (minus : Bool) (b : ℕ) → OptionalSign sg minus
+    → Read (sg ++ (b ∷ [])) (cond (isZero b) (Zero (hasSign sg) minus) (cond (isOneToNine b) (Digit minus (digitValue b)) Bad))
+begun sg minus b o =
+    cond-both (Read (sg ++ (b ∷ []))) (isZero b)
+    (λ t. from-byte (λ (c : ℕ). Read (sg ++ (c ∷ [])) (Zero (hasSign sg) minus)) 48 b t (at-zero sg minus o))
+    (λ t.
+    cond-both (Read (sg ++ (b ∷ []))) (isOneToNine b)
+    (λ u. at-digit sg (b ∷ []) minus b (digitValue b) 0 o (is-true (isOneToNine b) u) by-none) (λ u. at-bad (sg ++ (b ∷ []))))
+
+-- a point behind an integer part
+dotted : (sg s : List ℕ) (minus : Bool) (m b : ℕ) → OptionalSign sg minus → IntegerPart s m → T (is "." b)
+    → Read ((sg ++ s) ++ (b ∷ [])) (Dot minus m)
+dotted sg s minus m b o w t = from-byte (λ (c : ℕ). Read ((sg ++ s) ++ (c ∷ [])) (Dot minus m)) 46 b t (at-dot sg s minus m o w)
+
+-- an `e`
+marked : (sg s : List ℕ) (minus : Bool) (m places b : ℕ) → OptionalSign sg minus → Mantissa s m places → T (isE b)
+    → Read ((sg ++ s) ++ (b ∷ [])) (Mark minus m places)
+marked sg s minus m places b o w t =
+    again (sg ++ (s ++ (b ∷ []))) ((sg ++ s) ++ (b ∷ [])) (Mark minus m places) (sym (append-assoc sg s (b ∷ [])))
+    (at-mark (sg ++ (s ++ (b ∷ []))) minus m places (up-to-e sg s minus m places b o w (is-true (isE b) t)))
+
+-- the letter of a base
+letter : (b : ℕ) → T (ltb 0 (baseOf b)) → BaseLetter b (baseOf b)
+unfolding baseOf
+letter b =
+    cond-both Named (is "x" b) (λ t u. from-byte (λ (c : ℕ). BaseLetter c 16) 120 b t hex)
+    (λ t.
+    cond-both Named (is "o" b) (λ u v. from-byte (λ (c : ℕ). BaseLetter c 8) 111 b u octal)
+    (λ u. cond-both Named (is "b" b) (λ v w. from-byte (λ (c : ℕ). BaseLetter c 2) 98 b v binary) (λ v w. absurd w)))
+  where
+    Named : ℕ → Type 0
+    Named base = T (ltb 0 base) → BaseLetter b base
+
+-- 0 as an integer part
+nought : IntegerPart (code "0" ∷ []) 0
+unfolding digitValue
+nought = one-digit 48 refl
+
+-- ---- one byte more
+
+-- behind digits of an integer part
+step-digit : (sg s : List ℕ) (minus : Bool) (c m count b : ℕ) → OptionalSign sg minus → isOneToNine c ≡ true
+    → Followed 10 (c ∷ []) (digitValue c) s m count → Read ((sg ++ s) ++ (b ∷ [])) (numberStep (Digit minus m) b)
+unfolding numberStep
+step-digit sg s minus c m count b o e f =
+    cond-both (Read now) (isDigitIn 10 b)
+    (λ t.
+    again (sg ++ (s ++ (b ∷ []))) now (Digit minus (m * 10 + digitValue b)) (sym (append-assoc sg s (b ∷ [])))
+    (at-digit sg (s ++ (b ∷ [])) minus c (m * 10 + digitValue b) (suc count) o e (by-digit s m count b f (is-true (isDigitIn 10 b) t))))
+    (λ t.
+    cond-both (Read now) (is "_" b)
+    (λ u. from-byte (λ (x : ℕ). Read ((sg ++ s) ++ (x ∷ [])) (Gap minus m)) 95 b u (at-gap sg s minus c m count o e f))
+    (λ u.
+    cond-both (Read now) (is "." b) (dotted sg s minus m b o (more-digits c s m count e f))
+    (λ v. cond-both (Read now) (isE b) (marked sg s minus m 0 b o (no-fraction s m (more-digits c s m count e f))) (λ w. at-bad now))))
+  where
+    now : List ℕ
+    now = (sg ++ s) ++ (b ∷ [])
+
+-- behind digits of a fraction
+step-fraction : (sg s : List ℕ) (minus : Bool) (m places b : ℕ) → OptionalSign sg minus → WithFraction s m places
+    → Read ((sg ++ s) ++ (b ∷ [])) (numberStep (Fraction minus m places) b)
+unfolding numberStep
+step-fraction sg s minus m places b o w =
+    cond-both (Read now) (isDigitIn 10 b)
+    (λ t.
+    again (sg ++ (s ++ (b ∷ []))) now (Fraction minus (m * 10 + digitValue b) (suc places)) (sym (append-assoc sg s (b ∷ [])))
+    (at-fraction sg (s ++ (b ∷ [])) minus (m * 10 + digitValue b) (suc places) o (fraction-more s m places b w (is-true (isDigitIn 10 b) t))))
+    (λ t.
+    cond-both (Read now) (is "_" b)
+    (λ u. from-byte (λ (x : ℕ). Read ((sg ++ s) ++ (x ∷ [])) (FractionGap minus m places)) 95 b u (at-fraction-gap sg s minus m places o w))
+    (λ u. cond-both (Read now) (isE b) (marked sg s minus m places b o (fraction s m places w)) (λ v. at-bad now)))
+  where
+    now : List ℕ
+    now = (sg ++ s) ++ (b ∷ [])
+
+-- behind digits of an exponent
+step-exponent : (front sg s : List ℕ) (minus : Bool) (m places : ℕ) (below : Bool) (n b : ℕ) → UpToE front minus m places → OptionalSign sg below
+    → Digits 10 s n → Read ((front ++ (sg ++ s)) ++ (b ∷ [])) (numberStep (ExpDigit minus m places below n) b)
+unfolding numberStep
+step-exponent front sg s minus m places below n b u o d =
+    cond-both (Read now) (isDigitIn 10 b)
+    (λ t.
+    again (front ++ (sg ++ (s ++ (b ∷ [])))) now (ExpDigit minus m places below (n * 10 + digitValue b)) (sym (after-two front sg s (b ∷ [])))
+    (at-exponent front sg (s ++ (b ∷ [])) minus m places below (n * 10 + digitValue b) u o (digit-more 10 s n b d (is-true (isDigitIn 10 b) t))))
+    (λ t.
+    cond-both (Read now) (is "_" b)
+    (λ v.
+    from-byte (λ (x : ℕ). Read ((front ++ (sg ++ s)) ++ (x ∷ [])) (ExpGap minus m places below n)) 95 b v
+    (at-exponent-gap front sg s minus m places below n u o d))
+    (λ v. at-bad now))
+  where
+    now : List ℕ
+    now = (front ++ (sg ++ s)) ++ (b ∷ [])
+
+step-read : (s : List ℕ) (x : Number) (b : ℕ) → Read s x → Read (s ++ (b ∷ [])) (numberStep x b)
+unfolding numberStep
+step-read s x b at-start = cond-both (Read (b ∷ [])) (isSign b) (λ t. at-sign b (is-true (isSign b) t)) (λ t. begun [] false b none)
+step-read s x b (at-sign c e) = begun (c ∷ []) (is "-" c) b (signed c e)
+step-read s x b (at-zero sg minus none) =
+    cond-both (Read (48 ∷ b ∷ [])) (is "." b) (dotted [] (48 ∷ []) false 0 b none nought)
+    (λ t.
+    cond-both (Read (48 ∷ b ∷ [])) (isE b) (marked [] (48 ∷ []) false 0 0 b none (no-fraction (48 ∷ []) 0 nought))
+    (λ u.
+    cond-both (Read (48 ∷ b ∷ [])) (ltb 0 (baseOf b)) (λ v. at-prefix b (baseOf b) (letter b v)) (λ v. at-bad (48 ∷ b ∷ []))))
+step-read s x b (at-zero sg minus (signed c e)) =
+    cond-both (Read (c ∷ 48 ∷ b ∷ [])) (is "." b) (dotted (c ∷ []) (48 ∷ []) (is "-" c) 0 b (signed c e) nought)
+    (λ t.
+    cond-both (Read (c ∷ 48 ∷ b ∷ [])) (isE b) (marked (c ∷ []) (48 ∷ []) (is "-" c) 0 0 b (signed c e) (no-fraction (48 ∷ []) 0 nought))
+    (λ u. at-bad (c ∷ 48 ∷ b ∷ [])))
+step-read s x b (at-digit sg r minus c m count o e f) = step-digit sg r minus c m count b o e f
+step-read s x b (at-gap sg r minus c m count o e f) =
+    cond-both (Read now) (isDigitIn 10 b)
+    (λ t.
+    again (sg ++ (r ++ (95 ∷ b ∷ []))) now (Digit minus (m * 10 + digitValue b)) (sym (after-gap sg r b))
+    (at-digit sg (r ++ (95 ∷ b ∷ [])) minus c (m * 10 + digitValue b) (suc count) o e (by-underscore r m count b f (is-true (isDigitIn 10 b) t))))
+    (λ t. at-bad now)
+  where
+    now : List ℕ
+    now = ((sg ++ r) ++ (95 ∷ [])) ++ (b ∷ [])
+step-read s x b (at-dot sg r minus m o w) =
+    cond-both (Read now) (isDigitIn 10 b)
+    (λ t.
+    again (sg ++ (r ++ (46 ∷ b ∷ []))) now (Fraction minus (m * 10 + digitValue b) 1)
+    (sym (append-assoc (sg ++ r) (46 ∷ []) (b ∷ []) ∙ append-assoc sg r (46 ∷ b ∷ [])))
+    (at-fraction sg (r ++ (46 ∷ b ∷ [])) minus (m * 10 + digitValue b) 1 o
+    (with-fraction r (r ++ (46 ∷ b ∷ [])) m (m * 10 + digitValue b) b 0 w (is-true (isDigitIn 10 b) t) by-none)))
+    (λ t. at-bad now)
+  where
+    now : List ℕ
+    now = ((sg ++ r) ++ (46 ∷ [])) ++ (b ∷ [])
+step-read s x b (at-fraction sg r minus m places o w) = step-fraction sg r minus m places b o w
+step-read s x b (at-fraction-gap sg r minus m places o w) =
+    cond-both (Read now) (isDigitIn 10 b)
+    (λ t.
+    again (sg ++ (r ++ (95 ∷ b ∷ []))) now (Fraction minus (m * 10 + digitValue b) (suc places)) (sym (after-gap sg r b))
+    (at-fraction sg (r ++ (95 ∷ b ∷ [])) minus (m * 10 + digitValue b) (suc places) o
+    (fraction-underscore r m places b w (is-true (isDigitIn 10 b) t))))
+    (λ t. at-bad now)
+  where
+    now : List ℕ
+    now = ((sg ++ r) ++ (95 ∷ [])) ++ (b ∷ [])
+step-read s x b (at-prefix c base l) =
+    cond-both (Read (48 ∷ c ∷ b ∷ [])) (isDigitIn base b)
+    (λ t. at-based c base (b ∷ []) (digitValue b) l (digit-alone base b (is-true (isDigitIn base b) t))) (λ t. at-bad (48 ∷ c ∷ b ∷ []))
+step-read s x b (at-based c base r n l d) =
+    cond-both (Read (48 ∷ c ∷ (r ++ (b ∷ [])))) (isDigitIn base b)
+    (λ t. at-based c base (r ++ (b ∷ [])) (n * base + digitValue b) l (digit-more base r n b d (is-true (isDigitIn base b) t)))
+    (λ t.
+    cond-both (Read (48 ∷ c ∷ (r ++ (b ∷ [])))) (is "_" b)
+    (λ u. from-byte (λ (y : ℕ). Read (48 ∷ c ∷ (r ++ (y ∷ []))) (BasedGap base n)) 95 b u (at-based-gap c base r n l d))
+    (λ u. at-bad (48 ∷ c ∷ (r ++ (b ∷ [])))))
+step-read s x b (at-based-gap c base r n l d) =
+    cond-both (Read now) (isDigitIn base b)
+    (λ t.
+    again (48 ∷ c ∷ (r ++ (95 ∷ b ∷ []))) now (Based base (n * base + digitValue b))
+    (ap (λ (y : List ℕ). 48 ∷ c ∷ y) (sym (append-assoc r (95 ∷ []) (b ∷ []))))
+    (at-based c base (r ++ (95 ∷ b ∷ [])) (n * base + digitValue b) l (underscore-more base r n b d (is-true (isDigitIn base b) t))))
+    (λ t. at-bad now)
+  where
+    now : List ℕ
+    now = 48 ∷ c ∷ ((r ++ (95 ∷ [])) ++ (b ∷ []))
+step-read s x b (at-mark front minus m places u) =
+    cond-both (Read now) (isSign b) (λ t. at-exponent-sign front minus m places b u (is-true (isSign b) t))
+    (λ t.
+    cond-both (Read now) (isDigitIn 10 b)
+    (λ v. at-exponent front [] (b ∷ []) minus m places false (digitValue b) u none (digit-alone 10 b (is-true (isDigitIn 10 b) v)))
+    (λ v. at-bad now))
+  where
+    now : List ℕ
+    now = front ++ (b ∷ [])
+step-read s x b (at-exponent-sign front minus m places c u e) =
+    cond-both (Read now) (isDigitIn 10 b)
+    (λ t.
+    again (front ++ (c ∷ b ∷ [])) now (ExpDigit minus m places (is "-" c) (digitValue b)) (sym (append-assoc front (c ∷ []) (b ∷ [])))
+    (at-exponent front (c ∷ []) (b ∷ []) minus m places (is "-" c) (digitValue b) u (signed c e)
+    (digit-alone 10 b (is-true (isDigitIn 10 b) t))))
+    (λ t. at-bad now)
+  where
+    now : List ℕ
+    now = (front ++ (c ∷ [])) ++ (b ∷ [])
+step-read s x b (at-exponent front sg r minus m places below n u o d) = step-exponent front sg r minus m places below n b u o d
+step-read s x b (at-exponent-gap front sg r minus m places below n u o d) =
+    cond-both (Read now) (isDigitIn 10 b)
+    (λ t.
+    again (front ++ (sg ++ (r ++ (95 ∷ b ∷ [])))) now (ExpDigit minus m places below (n * 10 + digitValue b))
+    (sym (append-assoc (front ++ (sg ++ r)) (95 ∷ []) (b ∷ []) ∙ after-two front sg r (95 ∷ b ∷ [])))
+    (at-exponent front sg (r ++ (95 ∷ b ∷ [])) minus m places below (n * 10 + digitValue b) u o
+    (underscore-more 10 r n b d (is-true (isDigitIn 10 b) t))))
+    (λ t. at-bad now)
+  where
+    now : List ℕ
+    now = ((front ++ (sg ++ r)) ++ (95 ∷ [])) ++ (b ∷ [])
+step-read s x b (at-bad t) = at-bad (t ++ (b ∷ []))
+
+feed-read : (t s : List ℕ) (x : Number) → Read s x → Read (s ++ t) (feed numberStep x t)
+unfolding feed
+feed-read [] s x r = subst (λ (l : List ℕ). Read l x) (sym (append-nil s)) r
+feed-read (b ∷ t) s x r =
+    subst (λ (l : List ℕ). Read l (feed numberStep (numberStep x b) t)) (append-assoc s (b ∷ []) t)
+    (feed-read t (s ++ (b ∷ [])) (numberStep x b) (step-read s x b r))
+
+-- ---- at the end
+
+-- where what has been read is no number, the machine's state means none
+read-malformed : (s : List ℕ) (x : Number) → Read s x → ((y : Meaning) → Numeral s y → ⊥) → meaning x ≡ Malformed
+unfolding meaning
+read-malformed s x at-start f = refl
+read-malformed s x (at-sign b e) f = refl
+read-malformed s x (at-zero sg minus o) f = absurd (f (asInteger minus 0) (integer sg (48 ∷ []) minus 0 o nought))
+read-malformed s x (at-digit sg r minus c m count o e h) f =
+    absurd (f (asInteger minus m) (integer sg r minus m o (more-digits c r m count e h)))
+read-malformed s x (at-gap sg r minus c m count o e h) f = refl
+read-malformed s x (at-dot sg r minus m o w) f = refl
+read-malformed s x (at-fraction sg r minus m places o w) f =
+    absurd (f (asDecimal minus m (negℤ (pos places))) (without-exponent sg r minus m places o w))
+read-malformed s x (at-fraction-gap sg r minus m places o w) f = refl
+read-malformed s x (at-prefix c base l) f = refl
+read-malformed s x (at-based c base r n l d) f = absurd (f (asInteger false n) (based c base r n l d))
+read-malformed s x (at-based-gap c base r n l d) f = refl
+read-malformed s x (at-mark front minus m places u) f = refl
+read-malformed s x (at-exponent-sign front minus m places c u e) f = refl
+read-malformed s x (at-exponent front sg r minus m places below n u o d) f =
+    absurd
+    (f (asDecimal minus m (signedBy below n +ℤ negℤ (pos places)))
+    (with-exponent front (sg ++ r) minus m places (signedBy below n) u (exponent sg r below n o d)))
+read-malformed s x (at-exponent-gap front sg r minus m places below n u o d) f = refl
+read-malformed s x (at-bad t) f = refl
+
+pub numbers-read : NumbersRead
+unfolding NumbersRead number
+numbers-read s =
+    record {
+      meant = numeral-meant s;
+      malformed = λ f. read-malformed s (feed numberStep Start s) (feed-read s [] Start at-start) f;
+    }
