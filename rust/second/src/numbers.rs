@@ -106,7 +106,8 @@ fn decimal_integer(written: &str) -> Option<(bool, &str)> {
 
 /// An exponent, by document 02's request 02: "an optional sign and one or more
 /// digits, with a single underscore allowed between digits, and leading zeros
-/// allowed." Gives the minus and the digits.
+/// allowed." A decimal integer is such too, but for its leading zeros, which
+/// [`decimal_integer`] looks at. Gives the minus and the digits.
 fn sign_and_digits(written: &str) -> Option<(bool, &str)> {
     let (minus, digits) = match written.strip_prefix('-') {
         Some(digits) => (true, digits),

@@ -143,7 +143,7 @@ fn exponents_that_are_malformed() {
     // The rest of a number has the rules that it had.
     for written in [
         "01e6", "-01e6", "+01e6", "00e1", "00e01", "01e06", "-00e00", "0_1e06", "0_0e0", "1_e06",
-        "1._0e06", "1.0_e06", "1.e06", "1__0e06", "06", "-06", "0_6", "00",
+        "1._0e06", "1.0_e06", "1.5_e06", "1.e06", "1__0e06", "06", "-06", "0_6", "00",
     ] {
         bad(written, 3);
     }
@@ -216,6 +216,7 @@ fn both_sides_of_400() {
         ("1e-0400", 7, [1, 0, 600]),
         ("1e0_4_0_0", 9, [1, 0, 1400]),
         ("0e0400", 6, [0, 0, 1400]),
+        ("0e-0400", 7, [0, 0, 600]),
         ("0e-000400", 9, [0, 0, 600]),
         // 401 - 1 and -399 - 1; 402 - 2 and -398 - 2.
         ("1.0e0401", 8, [10, 0, 1400]),
@@ -241,6 +242,7 @@ fn both_sides_of_400() {
         // m is too wide, whatever the exponent is.
         "9223372036854775808e00",
         "-9223372036854775808e-00",
+        "-9223372036854775808e09",
         "922337203685477580.8e01",
     ] {
         bad(written, 5);
@@ -266,9 +268,10 @@ fn no_exponent_wraps() {
         }
     }
     item("1e262", 5, [1, 0, 1262]);
-    // Multiples of every power of two.
+    // A multiple of 2^60000, so 0 if kept in fewer bits.
     bad(&format!("1e1{}", "0".repeat(MANY)), 5);
     bad(&format!("1e-01{}", "0".repeat(MANY)), 5);
+    // A multiple of 2^60001 and 6 more, so 6 if kept in fewer bits.
     bad(&format!("1e1{}6", "0".repeat(MANY)), 5);
 }
 
