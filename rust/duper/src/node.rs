@@ -53,7 +53,19 @@ impl Kind {
     }
 }
 
-/// A decimal: `digits` times ten to the power of `power`, with its sign.
+/// A decimal: `digits` times ten to the power of `power`, with its sign. `2.50`
+/// has the digits 250 and the power -2, and `1e06` has 1 and 6: an exponent may
+/// have leading zeros, as in JSON.
+///
+/// ```
+/// use duper::{Decimal, Document};
+///
+/// let document = Document::read("[2.50, 1e06]")?;
+/// let decimal = |node| document.node(node).and_then(|node| node.decimal());
+/// assert_eq!(decimal(1), Some(Decimal { minus: false, digits: 250, power: -2 }));
+/// assert_eq!(decimal(2), Some(Decimal { minus: false, digits: 1, power: 6 }));
+/// # Ok::<(), duper::Refusal>(())
+/// ```
 #[derive(Debug, Clone, Copy, PartialEq, Eq, Hash)]
 pub struct Decimal {
     /// Whether a minus was written, `-0.0` included.

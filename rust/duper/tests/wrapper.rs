@@ -84,10 +84,11 @@ fn exponents_of_very_many_digits() {
         (format!("[1e{nines}]"), 5),
         (format!("[1e-{nines}]"), 5),
         (format!("[1e{zeros}401]"), 5),
+        (format!("[1e{zeros}__6]"), 3),
         // 3 goes before 5.
         (format!("[1e{nines}x]"), 3),
         (format!("[1e{nines}_]"), 3),
-        (format!("[1e{zeros}__6]"), 3),
+        (format!("[1e{nines}__6]"), 3),
     ] {
         assert_eq!(Document::read(text).unwrap_err(), refusal(number, 1));
     }
