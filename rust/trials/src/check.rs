@@ -211,7 +211,10 @@ pub fn second_content(text: &[u8], call: &ContentCall, out: &mut [u8]) -> Answer
 /// Reads a case by the reader on trial and by `second`. Answers and whole tables
 /// must be alike, and be as [`reading`] has them. Gives answer and table; the
 /// error tells the difference.
-pub fn both(case: &Case, reader: Reader) -> Result<(Answer, Vec<u32>), String> {
+pub fn both(
+    case: &Case,
+    reader: impl Fn(&[u8], &mut [u32]) -> Answer,
+) -> Result<(Answer, Vec<u32>), String> {
     let mut ours = rubbish(case.words);
     let mut theirs = ours.clone();
     let our_answer = reader(&case.text, &mut ours);
@@ -285,5 +288,35 @@ mod tests {
             assert!(sorts.keys().any(|&(_, number)| number == wanted), "{wanted}: {sorts:?}");
         }
         println!("{sorts:#?}");
+    }
+
+    /// Another table, and another number, where nothing is known beforehand.
+    #[test]
+    fn differences_are_seen() {
+        let case = |text: &[u8]| Case {
+            sort: "",
+            text: text.to_vec(),
+            words: 24,
+            known: Known::Nothing,
+            contents: Vec::new(),
+        };
+        let [good, bad] = [case(b"[1e06]"), case(b"[1e0_]")];
+        let mut table = vec![0; 24];
+        assert_eq!(second_read(&good.text, &mut table), Ok(2));
+        assert_eq!(both(&good, second_read), Ok((Ok(2), table)));
+        assert_eq!(both(&bad, second_read), Ok((Err((3, 1)), vec![0; 24])));
+
+        let power = |text: &[u8], table: &mut [u32]| {
+            let answer = second_read(text, table);
+            table[23] += 1;
+            answer
+        };
+        let what = "both answer Ok(2); word 11 of node 1: on trial 1007, second 1006";
+        assert_eq!(both(&good, power), Err(what.to_string()));
+        let number = |text: &[u8], table: &mut [u32]| {
+            second_read(text, table).map_err(|(_, place)| (5, place))
+        };
+        let what = "on trial: Err((5, 1))\nsecond: Err((3, 1))";
+        assert_eq!(both(&bad, number), Err(what.to_string()));
     }
 }

@@ -43,6 +43,8 @@ pub struct Seen {
     /// In those of their corrections whose replacement is a number with leading
     /// zeros in its exponent.
     pub zeros: [u64; 21],
+    /// In those of them that have over 10,000 leading zeros there.
+    pub many_zeros: [u64; 21],
     /// In single calls, by number.
     pub single: [u64; 21],
 }
@@ -98,8 +100,14 @@ fn run(history: &History, editor: Editor, seen: &mut Seen) -> Result<(), String>
             .and_then(|answer| cause(call, page).map(|()| answer))
             .map_err(|what| told_to(history, number, &what))?;
         count(&mut seen.histories, answer);
-        if matches!(call, Call::Correct { replacement, .. } if zeros::has_leading(replacement)) {
-            count(&mut seen.zeros, answer);
+        if let Call::Correct { replacement, .. } = call {
+            let zeros = zeros::in_exponent(replacement);
+            if zeros > 0 {
+                count(&mut seen.zeros, answer);
+            }
+            if zeros > 10_000 {
+                count(&mut seen.many_zeros, answer);
+            }
         }
     }
     // "Undoing all in force gives back the first text byte for byte."
@@ -327,8 +335,10 @@ mod tests {
         let came_up = |seen: [u64; 21]| (0..=20).filter(|&n| seen[n] > 0).collect::<Vec<_>>();
         assert_eq!(came_up(seen.histories), [0, 12, 13, 14, 15, 16, 17], "{seen:?}");
         assert_eq!(came_up(seen.single), (0..=18).collect::<Vec<_>>(), "{seen:?}");
-        // Leading zeros in an exponent are taken, and refused where they must be.
+        // Leading zeros in an exponent are taken, and refused where they must be;
+        // so are very many of them.
         assert_eq!(came_up(seen.zeros), [0, 12, 13, 14, 15], "{seen:?}");
+        assert!(seen.many_zeros[0] > 3 && seen.many_zeros[13] > 3, "{seen:?}");
         println!("{seen:?}");
     }
 

@@ -44,12 +44,69 @@ impl Parts {
     }
 }
 
+/// How many tokens [`named`] has.
+pub const NAMED: usize = 27;
+
+/// The request's own numbers, and others at both sides of its sentences: "an
+/// exponent of very many zeros must not trip 5". Decimals by m and p + 1000.
+pub fn named() -> [Token; NAMED] {
+    let zeros = "0".repeat(60_000);
+    let nines = "9".repeat(60_000);
+    let taken = |written: String, m: u32, power: u32| Token {
+        written,
+        meaning: Meaning::Decimal([m, 0, power]),
+    };
+    let refused =
+        |written: String, number: u32| Token { written, meaning: Meaning::Refused(number) };
+    [
+        taken("1e06".into(), 1, 1006),
+        refused("01e6".into(), 3),
+        taken("1e0_6".into(), 1, 1006),
+        taken("1e-00".into(), 1, 1000),
+        taken("0e0".into(), 0, 1000),
+        refused("1e_5".into(), 3),
+        refused("1e5_".into(), 3),
+        refused("1e5__0".into(), 3),
+        refused("1e".into(), 3),
+        refused("1e+".into(), 3),
+        refused("1e+_1".into(), 3),
+        // Zeros before other digits, and alone.
+        taken(format!("1e{zeros}6"), 1, 1006),
+        taken(format!("1e+{zeros}6"), 1, 1006),
+        taken(format!("1e-{zeros}6"), 1, 994),
+        taken(format!("1e{zeros}"), 1, 1000),
+        taken(format!("1e-{zeros}"), 1, 1000),
+        taken(format!("1e{zeros}400"), 1, 1400),
+        refused(format!("1e{zeros}401"), 5),
+        taken(format!("1.5e-{zeros}399"), 15, 600),
+        refused(format!("1.5e-{zeros}400"), 5),
+        refused(format!("1e{nines}"), 5),
+        refused(format!("1e-{nines}"), 5),
+        refused(format!("1e{zeros}_"), 3),
+        // 3 goes before 5.
+        refused(format!("1e{nines}x"), 3),
+        refused(format!("1e{nines}_"), 3),
+        refused(format!("1e{zeros}401_"), 3),
+        refused(format!("01e{nines}"), 3),
+    ]
+}
+
 /// Stands for every exponent that is farther from 0 than any limit.
 const FAR: i64 = 1 << 40;
 
-/// Makes a token: one in three malformed, one in six with an exponent of over
-/// 1,000 digits.
+/// Makes a token: one in three malformed, about one in six with an exponent of
+/// over 1,000 digits.
 pub fn token(random: &mut Random) -> Token {
+    let is_long = random.one_in(6);
+    make(random, is_long)
+}
+
+/// Likewise, but nearly all with an exponent of over 1,000 digits.
+pub fn long_token(random: &mut Random) -> Token {
+    make(random, true)
+}
+
+fn make(random: &mut Random, is_long: bool) -> Token {
     let m = match random.below(24) {
         0 => i64::MAX as u64 + 1,
         1 | 2 => i64::MAX as u64,
@@ -64,7 +121,7 @@ pub fn token(random: &mut Random) -> Token {
     // Underscores between digits: none, at one place in so many, or everywhere.
     let often = [0, 0, 1, 2, 5][random.below(5)];
     let (digits, value) =
-        if random.one_in(6) { long(random, count, often > 0) } else { short(random, count) };
+        if is_long { long(random, count, often > 0) } else { short(random, count) };
     let mut parts = Parts {
         sign: random.pick(&["", "", "+", "-"]),
         whole: whole.to_string(),
@@ -117,7 +174,7 @@ fn long(random: &mut Random, fraction: usize, underscores: bool) -> (String, i64
         // Zeros alone.
         0 | 1 => ("0".repeat(length), 0),
         2 => ("9".repeat(length), FAR),
-        // A multiple of every power of two, so 0 if it is kept in some bits.
+        // A multiple of 2^(length - 1), so 0 if it is kept in fewer bits.
         3 => ("1".to_string() + &"0".repeat(length - 1), FAR),
         4 => ("0".repeat(length / 2) + &"9".repeat(length - length / 2), FAR),
         _ => {
@@ -168,7 +225,7 @@ fn spoil(random: &mut Random, parts: &mut Parts) {
     let mut place = |first: usize| if at_end { length } else { random.between(first, length) };
     let (any, inner) = (place(0), place(1));
     match random.below(12) {
-        // A doubled underscore between two digits.
+        // Two underscores between digits, or three where one stands already.
         0 | 1 => {
             if inner == length {
                 digits.push('0');
@@ -191,8 +248,8 @@ fn spoil(random: &mut Random, parts: &mut Parts) {
 #[cfg(test)]
 mod tests {
     use super::*;
-    use crate::check::{both, reading, rubbish, second_read, Answer, Reader};
-    use crate::texts::{self, Case};
+    use crate::check::{both, reading, rubbish, second_read, Answer};
+    use crate::texts::{self, Case, Known};
 
     #[test]
     fn tokens_follow_from_seed_and_number() {
@@ -205,14 +262,15 @@ mod tests {
 
     #[test]
     fn tokens_are_what_they_must_be() {
-        for number in 0..4_000 {
-            let Token { written, meaning } = token(&mut Random::for_case(18, number));
+        let made = (0..4_000).map(|number| token(&mut Random::for_case(18, number)));
+        for Token { written, meaning } in made.chain(named()) {
             assert!(written.len() <= 61_000, "{} bytes", written.len());
             let mut table = [0; 24];
             let answer = second_read(format!("[{written}]").as_bytes(), &mut table);
             let read = match answer {
-                Ok(_) => Meaning::Decimal([table[21], table[22], table[23]]),
-                Err((number, _)) => Meaning::Refused(number),
+                Ok(2) if table[12] == 7 => Meaning::Decimal([table[21], table[22], table[23]]),
+                Err((number, 1)) => Meaning::Refused(number),
+                other => panic!("{other:?}, kind {}: {written}", table[12]),
             };
             assert_eq!(read, meaning, "{written}");
         }
@@ -225,6 +283,10 @@ mod tests {
             .filter(|case| case.sort == "exponent")
             .collect()
     }
+
+    /// What a reader takes an exponent for, given its sign and what follows
+    /// that; `None` if for what it is.
+    type Otherwise = fn(&str, &str) -> Option<String>;
 
     /// Reads as `second` does, but a text in which the number stands otherwise,
     /// in as many bytes, so that all places stay. The number is the first run
@@ -246,11 +308,11 @@ mod tests {
         second_read(&text, table)
     }
 
-    /// Likewise of the exponent alone, given as its sign and what follows that.
+    /// Likewise of the exponent alone.
     fn with_exponent(
         text: &[u8],
         table: &mut [u32],
-        otherwise: fn(&str, &str) -> Option<String>,
+        otherwise: impl Fn(&str, &str) -> Option<String>,
     ) -> Answer {
         with_number(text, table, |number| {
             let [front, sign, digits] = split(number)?;
@@ -259,15 +321,10 @@ mod tests {
     }
 
     /// Likewise, if the exponent is well formed.
-    fn with_good(
-        text: &[u8],
-        table: &mut [u32],
-        otherwise: fn(&str, &str) -> Option<String>,
-    ) -> Answer {
-        with_number(text, table, |number| {
-            let [front, sign, digits] = split(number)?;
+    fn with_good(text: &[u8], table: &mut [u32], otherwise: Otherwise) -> Answer {
+        with_exponent(text, table, |sign, digits| {
             let good = digits.split('_').all(is_group);
-            Some(front.to_string() + &otherwise(sign, digits).filter(|_| good)?)
+            otherwise(sign, digits).filter(|_| good)
         })
     }
 
@@ -306,219 +363,163 @@ mod tests {
     }
 
     /// A sign and this value, in as many bytes as there were.
-    fn padded(sign: &str, digits: &str, value: impl ToString) -> Option<String> {
-        Some(format!("{sign}{:0>width$}", value.to_string(), width = digits.len()))
+    fn padded(sign: &str, digits: &str, value: impl ToString) -> String {
+        format!("{sign}{:0>width$}", value.to_string(), width = digits.len())
     }
 
-    fn malformed(sign: &str, digits: &str) -> Option<String> {
-        Some(sign.to_string() + &"_".repeat(digits.len()))
+    fn malformed(sign: &str, digits: &str) -> String {
+        sign.to_string() + &"_".repeat(digits.len())
     }
 
-    /// At least three digits are needed for that.
-    fn too_wide(sign: &str, digits: &str) -> Option<String> {
-        (digits.len() >= 3).then(|| sign.to_string() + &"9".repeat(digits.len()))
+    /// That needs at least three digits.
+    fn too_wide(sign: &str, digits: &str) -> String {
+        sign.to_string() + &"9".repeat(digits.len())
     }
 
-    /// Readers that have the rule on exponents wrong in one way each.
-    const WRONG: &[(&str, Reader)] = &[
-        ("no leading zeros, as before the request", |text, table| {
-            with_good(text, table, |sign, digits| {
-                starts_with_zero(digits).then(|| malformed(sign, digits))?
-            })
+    /// Too wide, if there are over so many digits.
+    fn over(most: usize, sign: &str, digits: &str) -> Option<String> {
+        (bare(digits).len() > most).then(|| too_wide(sign, digits))
+    }
+
+    /// What is left of the value in so many bits, up to 64.
+    fn kept(bits: u32, sign: &str, digits: &str) -> Option<String> {
+        Some(padded(sign, digits, wrapped(digits) & (u64::MAX >> (64 - bits))))
+    }
+
+    /// Ways to have a well formed exponent wrong.
+    const GOOD: &[(&str, Otherwise)] = &[
+        ("no leading zeros, as before the request", |sign, digits| {
+            starts_with_zero(digits).then(|| malformed(sign, digits))
         }),
-        ("one leading zero at the most", |text, table| {
-            with_good(text, table, |sign, digits| {
-                bare(digits).starts_with("00").then(|| malformed(sign, digits))?
-            })
+        ("one leading zero at the most", |sign, digits| {
+            bare(digits).starts_with("00").then(|| malformed(sign, digits))
         }),
-        ("no leading zeros behind a sign", |text, table| {
-            with_good(text, table, |sign, digits| {
-                let refused = !sign.is_empty() && starts_with_zero(digits);
-                refused.then(|| malformed(sign, digits))?
-            })
+        ("no leading zeros behind a sign", |sign, digits| {
+            (!sign.is_empty() && starts_with_zero(digits)).then(|| malformed(sign, digits))
         }),
-        ("no leading zeros without a sign", |text, table| {
-            with_good(text, table, |sign, digits| {
-                let refused = sign.is_empty() && starts_with_zero(digits);
-                refused.then(|| malformed(sign, digits))?
-            })
+        ("no leading zeros without a sign", |sign, digits| {
+            (sign.is_empty() && starts_with_zero(digits)).then(|| malformed(sign, digits))
         }),
-        ("zeros alone are no digits", |text, table| {
-            with_good(text, table, |sign, digits| {
-                (value(digits) == 0).then(|| malformed(sign, digits))?
-            })
+        ("zeros alone are no digits", |sign, digits| {
+            (value(digits) == 0).then(|| malformed(sign, digits))
         }),
-        ("-0 is refused", |text, table| {
-            with_good(text, table, |sign, digits| {
-                (sign == "-" && value(digits) == 0).then(|| malformed(sign, digits))?
-            })
+        ("-0 is refused", |sign, digits| {
+            (sign == "-" && value(digits) == 0).then(|| malformed(sign, digits))
         }),
-        ("a zero ends the exponent", |text, table| {
-            with_good(text, table, |sign, digits| {
-                starts_with_zero(digits).then(|| padded(sign, digits, 0))?
-            })
+        ("a zero ends the exponent", |sign, digits| {
+            starts_with_zero(digits).then(|| padded(sign, digits, 0))
         }),
-        ("leading zeros make it octal", |text, table| {
-            with_good(text, table, |sign, digits| {
-                let octal = u64::from_str_radix(&bare(digits), 8).ok()?;
-                starts_with_zero(digits).then(|| padded(sign, digits, octal))?
-            })
+        ("leading zeros make it octal", |sign, digits| {
+            let octal = u64::from_str_radix(&bare(digits), 8).ok()?;
+            starts_with_zero(digits).then(|| padded(sign, digits, octal))
         }),
-        ("the sign is lost", |text, table| {
-            with_good(text, table, |sign, digits| (sign == "-").then(|| format!("+{digits}")))
+        ("the sign is lost", |sign, digits| (sign == "-").then(|| format!("+{digits}"))),
+        ("the sign is lost before a zero", |sign, digits| {
+            (sign == "-" && starts_with_zero(digits)).then(|| format!("+{digits}"))
         }),
-        ("the sign is lost before a zero", |text, table| {
-            with_good(text, table, |sign, digits| {
-                (sign == "-" && starts_with_zero(digits)).then(|| format!("+{digits}"))
-            })
+        ("over five digits written are too wide", |sign, digits| over(5, sign, digits)),
+        ("over 19 digits written are too wide", |sign, digits| over(19, sign, digits)),
+        ("over 10,000 digits written are too wide", |sign, digits| over(10_000, sign, digits)),
+        ("over 32,767 digits written are too wide", |sign, digits| over(32_767, sign, digits)),
+        ("digits behind 10,000 others are passed over", |sign, digits| {
+            let bare = bare(digits);
+            Some(padded(sign, digits, value(bare.get(..10_000)?)))
         }),
-        ("over five digits written are too wide", |text, table| {
-            with_good(text, table, |sign, digits| {
-                (bare(digits).len() > 5).then(|| too_wide(sign, digits))?
-            })
+        ("the first nine digits count", |sign, digits| {
+            let bare = bare(digits);
+            Some(padded(sign, digits, value(bare.get(..9)?)))
         }),
-        ("over 19 digits written are too wide", |text, table| {
-            with_good(text, table, |sign, digits| {
-                (bare(digits).len() > 19).then(|| too_wide(sign, digits))?
-            })
+        ("the last nine digits count", |sign, digits| {
+            let bare = bare(digits);
+            Some(padded(sign, digits, value(&bare[bare.len().checked_sub(9)?..])))
         }),
-        ("over 10,000 digits written are too wide", |text, table| {
-            with_good(text, table, |sign, digits| {
-                (bare(digits).len() > 10_000).then(|| too_wide(sign, digits))?
-            })
+        ("it is kept in 8 bits", |sign, digits| kept(8, sign, digits)),
+        ("it is kept in 16 bits", |sign, digits| kept(16, sign, digits)),
+        ("it is kept in 32 bits", |sign, digits| kept(32, sign, digits)),
+        ("it is kept in 64 bits", |sign, digits| kept(64, sign, digits)),
+        ("it is at most 400", |sign, digits| Some(padded(sign, digits, value(digits).min(400)))),
+        ("its own range is -400..400", |sign, digits| {
+            (value(digits) > 400).then(|| too_wide(sign, digits))
         }),
-        ("over 32,767 digits written are too wide", |text, table| {
-            with_good(text, table, |sign, digits| {
-                (bare(digits).len() > 32_767).then(|| too_wide(sign, digits))?
-            })
+        ("its digits are counted", |sign, digits| Some(padded(sign, digits, bare(digits).len()))),
+        ("an underscore is a zero", |sign, digits| {
+            Some(sign.to_string() + &digits.replace('_', "0"))
         }),
-        ("digits behind 10,000 others are passed over", |text, table| {
-            with_good(text, table, |sign, digits| {
-                let first: String = bare(digits).chars().take(10_000).collect();
-                (bare(digits).len() > 10_000).then(|| padded(sign, digits, value(&first)))?
-            })
+        ("no underscore behind a leading zero", |sign, digits| {
+            digits.starts_with("0_").then(|| malformed(sign, digits))
         }),
-        ("the first nine digits count", |text, table| {
-            with_good(text, table, |sign, digits| {
-                let first: String = bare(digits).chars().take(9).collect();
-                padded(sign, digits, value(&first))
-            })
-        }),
-        ("the last nine digits count", |text, table| {
-            with_good(text, table, |sign, digits| {
-                let bare = bare(digits);
-                padded(sign, digits, value(&bare[bare.len().saturating_sub(9)..]))
-            })
-        }),
-        ("it is kept in 8 bits", |text, table| {
-            with_good(text, table, |sign, digits| padded(sign, digits, wrapped(digits) as u8))
-        }),
-        ("it is kept in 16 bits", |text, table| {
-            with_good(text, table, |sign, digits| padded(sign, digits, wrapped(digits) as u16))
-        }),
-        ("it is kept in 32 bits", |text, table| {
-            with_good(text, table, |sign, digits| padded(sign, digits, wrapped(digits) as u32))
-        }),
-        ("it is kept in 64 bits", |text, table| {
-            with_good(text, table, |sign, digits| padded(sign, digits, wrapped(digits)))
-        }),
-        ("it is at most 400", |text, table| {
-            with_good(text, table, |sign, digits| padded(sign, digits, value(digits).min(400)))
-        }),
-        ("its own range is -400..400", |text, table| {
-            with_good(text, table, |sign, digits| {
-                (value(digits) > 400).then(|| too_wide(sign, digits))?
-            })
-        }),
-        ("its digits are counted", |text, table| {
-            with_good(text, table, |sign, digits| padded(sign, digits, bare(digits).len()))
-        }),
-        ("an underscore is a zero", |text, table| {
-            with_good(text, table, |sign, digits| {
-                Some(sign.to_string() + &digits.replace('_', "0"))
-            })
-        }),
-        ("no underscore behind a leading zero", |text, table| {
-            with_good(text, table, |sign, digits| {
-                digits.starts_with("0_").then(|| malformed(sign, digits))?
-            })
-        }),
-        ("no underscores at all", |text, table| {
-            with_good(text, table, |sign, digits| {
-                digits.contains('_').then(|| malformed(sign, digits))?
-            })
-        }),
-        ("a doubled underscore is allowed", |text, table| {
-            with_exponent(text, table, |sign, digits| {
-                padded(sign, digits, digits.replace("__", "_"))
-            })
-        }),
-        ("an underscore is allowed in front", |text, table| {
-            with_exponent(text, table, |sign, digits| {
-                padded(sign, digits, digits.strip_prefix('_')?)
-            })
-        }),
-        ("an underscore is allowed at the end", |text, table| {
-            with_exponent(text, table, |sign, digits| {
-                padded(sign, digits, digits.strip_suffix('_')?)
-            })
-        }),
-        ("a sign alone is 0", |text, table| {
-            with_exponent(text, table, |sign, digits| {
-                (!sign.is_empty() && digits.is_empty()).then(|| "0".to_string())
-            })
-        }),
-        ("a second sign is passed over", |text, table| {
-            with_exponent(text, table, |sign, digits| {
-                padded(sign, digits, digits.strip_prefix(['+', '-'])?)
-            })
-        }),
-        ("a letter ends the exponent", |text, table| {
-            with_exponent(text, table, |sign, digits| {
-                let end = digits.find(|byte: char| byte.is_ascii_alphabetic())?;
-                padded(sign, digits, &digits[..end])
-            })
-        }),
-        ("a point ends the exponent", |text, table| {
-            with_exponent(text, table, |sign, digits| {
-                padded(sign, digits, &digits[..digits.find('.')?])
-            })
-        }),
-        ("5 goes before 3", |text, table| {
-            with_exponent(text, table, |sign, digits| {
-                let end = digits.find(|byte: char| !byte.is_ascii_digit())?;
-                (value(&digits[..end]) > 10_000).then(|| too_wide(sign, digits))?
-            })
-        }),
-        ("5 goes before 3 at the end of a long run", |text, table| {
-            with_exponent(text, table, |sign, digits| {
-                let end = digits.find(|byte: char| !byte.is_ascii_digit())?;
-                let wide = end > 10_000 && value(&digits[..end]) > 10_000;
-                wide.then(|| too_wide(sign, digits))?
-            })
-        }),
-        ("the integer part may have a leading zero", |text, table| {
-            with_number(text, table, |number| {
-                let zero = starts_with_zero(number) && number.as_bytes()[1].is_ascii_digit();
-                zero.then(|| format!("+{}", &number[1..]))
-            })
+        ("no underscores at all", |sign, digits| {
+            digits.contains('_').then(|| malformed(sign, digits))
         }),
     ];
 
-    /// Each of the wrong readers is seen both by what `second` reads and by
-    /// what is known of the token.
+    /// Ways to have a malformed exponent wrong.
+    const BAD: &[(&str, Otherwise)] = &[
+        ("a doubled underscore is allowed", |sign, digits| {
+            Some(padded(sign, digits, digits.replace("__", "_")))
+        }),
+        ("an underscore is allowed in front", |sign, digits| {
+            Some(padded(sign, digits, digits.strip_prefix('_')?))
+        }),
+        ("an underscore is allowed at the end", |sign, digits| {
+            Some(padded(sign, digits, digits.strip_suffix('_')?))
+        }),
+        ("a sign alone is 0", |sign, digits| {
+            (!sign.is_empty() && digits.is_empty()).then(|| "0".to_string())
+        }),
+        ("a second sign is passed over", |sign, digits| {
+            Some(padded(sign, digits, digits.strip_prefix(['+', '-'])?))
+        }),
+        ("a letter ends the exponent", |sign, digits| {
+            let end = digits.find(|byte: char| byte.is_ascii_alphabetic())?;
+            Some(padded(sign, digits, &digits[..end]))
+        }),
+        ("a point ends the exponent", |sign, digits| {
+            Some(padded(sign, digits, &digits[..digits.find('.')?]))
+        }),
+        ("5 goes before 3", |sign, digits| {
+            let end = digits.find(|byte: char| !byte.is_ascii_digit())?;
+            (value(&digits[..end]) > 10_000).then(|| too_wide(sign, digits))
+        }),
+        ("5 goes before 3 at the end of a long run", |sign, digits| {
+            let end = digits.find(|byte: char| !byte.is_ascii_digit())?;
+            let wide = end > 10_000 && value(&digits[..end]) > 10_000;
+            wide.then(|| too_wide(sign, digits))
+        }),
+    ];
+
+    /// A wrong reader is seen by what `second` reads, where nothing is known of
+    /// the token, and by what is known of it.
+    fn is_seen(cases: &[Case], name: &str, reader: impl Fn(&[u8], &mut [u32]) -> Answer) {
+        let differs = |case: &Case| {
+            let unknown = Case { known: Known::Nothing, ..case.clone() };
+            both(&unknown, &reader).is_err()
+        };
+        assert!(cases.iter().any(differs), "by what `second` reads: {name}");
+        let known = |case: &Case| {
+            let mut table = rubbish(case.words);
+            let answer = reader(&case.text, &mut table);
+            reading(case, answer, &table).is_err()
+        };
+        assert!(cases.iter().any(known), "by what is known: {name}");
+    }
+
+    /// Readers that have the rule on exponents wrong in one way each.
     #[test]
     fn differences_are_seen() {
         let cases = cases();
         assert!(cases.iter().all(|case| both(case, second_read).is_ok()));
-        for (name, reader) in WRONG {
-            assert!(cases.iter().any(|case| both(case, *reader).is_err()), "{name}");
-            let known = |case: &Case| {
-                let mut table = rubbish(case.words);
-                let answer = reader(&case.text, &mut table);
-                reading(case, answer, &table).is_err()
-            };
-            assert!(cases.iter().any(known), "{name}");
+        for (name, otherwise) in GOOD {
+            is_seen(&cases, name, |text, table| with_good(text, table, *otherwise));
         }
+        for (name, otherwise) in BAD {
+            is_seen(&cases, name, |text, table| with_exponent(text, table, otherwise));
+        }
+        is_seen(&cases, "the integer part may have a leading zero", |text, table| {
+            with_number(text, table, |number| {
+                let zero = starts_with_zero(number) && number.as_bytes()[1].is_ascii_digit();
+                zero.then(|| format!("+{}", &number[1..]))
+            })
+        });
     }
 }

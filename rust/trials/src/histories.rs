@@ -268,6 +268,7 @@ pub(crate) fn replacement(random: &mut Random, root: bool, room: usize, limit: u
         23..=29 => random.below(2_000).to_string().into_bytes(),
         30..=32 => exponents::token(random).written.into_bytes(),
         33 | 34 => writer::write_value(random, 20, false).text,
+        35..=42 if room > 30_000 => exponents::long_token(random).written.into_bytes(),
         _ => writer::write_value(random, 3, false).text,
     }
 }

@@ -54,18 +54,25 @@ pub fn case(seed: u64, number: u64) -> Case {
 }
 
 /// How many cases [`short`] has.
-pub const SHORT: u64 = TWO_BYTES + EXPONENTS;
+pub const SHORT: u64 = NAMED_FROM + exponents::NAMED as u64;
 /// Texts of none, one and two bytes, each in five surroundings.
 const TWO_BYTES: u64 = 5 * (1 + 256 + 65_536);
 /// Exponents of none to six bytes, each one of six.
 const EXPONENTS: u64 = 1 + 6 + 36 + 216 + 1_296 + 7_776 + 46_656;
+/// The number of the first one of [`exponents::named`].
+const NAMED_FROM: u64 = TWO_BYTES + EXPONENTS;
 
 /// Every text of up to two bytes, bare and in four surroundings, by number;
-/// then every exponent of up to six bytes of `0`, `6`, `_`, `+`, `-` and `x`.
+/// then every exponent of up to six bytes of `0`, `6`, `_`, `+`, `-` and `x`;
+/// then the numbers of [`exponents::named`].
 pub fn short(number: u64) -> Case {
-    match number.checked_sub(TWO_BYTES) {
-        Some(number) => short_exponent(number),
-        None => two_bytes(number),
+    match number {
+        0..TWO_BYTES => two_bytes(number),
+        TWO_BYTES..NAMED_FROM => short_exponent(number - TWO_BYTES),
+        _ => {
+            let token = &exponents::named()[(number - NAMED_FROM) as usize];
+            holding("short", token, 0, 24)
+        }
     }
 }
 
@@ -423,16 +430,22 @@ fn near_number(random: &mut Random) -> Vec<u8> {
     text
 }
 
-/// A number with an exponent, of which it is known what it must be: the item of
-/// an array, bare or in an identifier, or a member of an object.
+/// A number with an exponent, of which it is known what it must be.
 fn exponent(random: &mut Random) -> Case {
-    let Token { written, meaning } = exponents::token(random);
+    let token = exponents::token(random);
     let form = random.below(3);
+    let words = 24 + random.below(25);
+    holding("exponent", &token, form, words)
+}
+
+/// A text that holds the token, by its form: the item of an array, bare or in an
+/// identifier, or a member of an object.
+fn holding(sort: &'static str, token: &Token, form: usize, words: usize) -> Case {
     let [open, close] = [["[", "]"], ["[A(", ")]"], ["{k:", "}"]][form];
-    let text = [open, &written, close].concat().into_bytes();
+    let text = [open, &token.written, close].concat().into_bytes();
     let place = open.len() as u32;
-    let end = place + written.len() as u32;
-    let known = match meaning {
+    let end = place + token.written.len() as u32;
+    let known = match token.meaning {
         Meaning::Refused(number) => Known::Refused(number, place.into()),
         Meaning::Decimal([low, high, power]) => {
             let (root, value, key, name) = match form {
@@ -448,8 +461,7 @@ fn exponent(random: &mut Random) -> Case {
             ])
         }
     };
-    let words = 24 + random.below(25);
-    Case { sort: "exponent", text, words, known, contents: Vec::new() }
+    Case { sort, text, words, known, contents: Vec::new() }
 }
 
 fn near_string(random: &mut Random) -> Vec<u8> {
@@ -715,12 +727,14 @@ mod tests {
 
     #[test]
     fn short_exponents_are_all_there() {
-        let texts: HashSet<_> = (TWO_BYTES..SHORT).map(|number| short(number).text).collect();
+        let texts: HashSet<_> = (TWO_BYTES..NAMED_FROM).map(|number| short(number).text).collect();
         // All are different, and no longer than six bytes.
         assert_eq!(texts.len() as u64, EXPONENTS);
         assert!(texts.iter().all(|text| text.len() <= b"[1e".len() + 6 + b"]".len()));
         for text in ["[1e]", "[1e06]", "[1e-0_06]", "[1e0__6]", "[1e_]", "[1exxxxxx]"] {
             assert!(texts.contains(text.as_bytes()), "{text}");
         }
+        assert_eq!(short(NAMED_FROM).text, b"[1e06]");
+        assert_eq!(short(SHORT - 1).text.len(), b"[01e]".len() + 60_000);
     }
 }

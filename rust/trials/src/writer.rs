@@ -604,3 +604,26 @@ pub fn write_doubled(random: &mut Random) -> (Vec<u8>, usize) {
     }
     (writer.done.text, place)
 }
+
+#[cfg(test)]
+mod tests {
+    use crate::check::{both, second_read};
+    use crate::texts;
+    use crate::zeros::Seen;
+
+    /// Numbers with thousands of leading zeros come up in valid texts.
+    #[test]
+    fn many_zeros_come_up() {
+        let mut seen = Seen::default();
+        let cases = (0..20_000).map(|number| texts::case(22, number));
+        for case in cases.filter(|case| case.sort == "valid") {
+            match both(&case, second_read) {
+                Ok((answer, table)) => seen.count(&case.text, answer, &table),
+                Err(what) => panic!("{what}\n{}", case.text.escape_ascii()),
+            }
+        }
+        assert!(seen.thousand.taken > 5 && seen.ten_thousand.taken > 2, "{seen:?}");
+        assert_eq!((seen.leading.too_wide, seen.leading.malformed), (0, 0), "{seen:?}");
+        println!("{seen:?}");
+    }
+}

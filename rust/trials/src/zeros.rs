@@ -137,11 +137,14 @@ fn leading(exponent: &[u8]) -> usize {
     zeros.saturating_sub(usize::from(length == digits.len()))
 }
 
-/// Whether these bytes, from the first to the last, are one number run that has
-/// leading zeros in its exponent.
-pub fn has_leading(bytes: &[u8]) -> bool {
+/// How many leading zeros these bytes have in the exponent, if they are one
+/// number run from the first to the last; else none.
+pub fn in_exponent(bytes: &[u8]) -> usize {
     let number = run(bytes, 0);
-    number.len() == bytes.len() && exponent(number).is_some_and(|written| leading(written) > 0)
+    if number.len() < bytes.len() {
+        return 0;
+    }
+    exponent(number).map_or(0, leading)
 }
 
 #[cfg(test)]
@@ -172,11 +175,13 @@ mod tests {
         ] {
             assert_eq!(leading(written.as_bytes()), zeros, "{written}");
         }
-        for number in ["1e06", "01E+00", "-1.5e-0_6", "1e0x1"] {
-            assert!(has_leading(number.as_bytes()), "{number}");
+        for (number, zeros) in
+            [("1e06", 1), ("01E+00", 1), ("-1.5e-0_06", 2), ("1e0x1", 1), ("1e0006", 3)]
+        {
+            assert_eq!(in_exponent(number.as_bytes()), zeros, "{number}");
         }
         for number in ["", "1e6", "1e0", "0x1e06", "06", "e06", "[1e06]", "1e06 ", "A(1e06)"] {
-            assert!(!has_leading(number.as_bytes()), "{number}");
+            assert_eq!(in_exponent(number.as_bytes()), 0, "{number}");
         }
     }
 

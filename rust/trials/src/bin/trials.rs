@@ -5,8 +5,8 @@
 //! `--self` looks at `second` alone; `--case K`, `--history K`, `--insertion K`
 //! or `--check K` runs that text, history, text with insertions or UTF-8 check
 //! only. `--short` runs every text of up to two bytes, bare and in a few
-//! surroundings, and every exponent of up to six bytes over a small alphabet, in
-//! place of random texts.
+//! surroundings, every exponent of up to six bytes over a small alphabet, and the
+//! numbers of document 02's request 02, in place of random texts.
 
 use std::ops::Range;
 use std::process::ExitCode;
@@ -61,8 +61,8 @@ fn options() -> Result<Options, String> {
             _ => return Err(format!("unknown argument {argument}\nusage: {USAGE}")),
         }
     }
-    if short && texts.is_none() {
-        texts = Some(0..texts::SHORT);
+    if short && texts.get_or_insert(0..texts::SHORT).end > texts::SHORT {
+        return Err(format!("--short has {} texts, numbered from 0", texts::SHORT));
     }
     // What isn't named isn't run, unless nothing is named.
     let [texts, histories, insertions, checks] = match [texts, histories, insertions, checks] {
@@ -208,6 +208,7 @@ fn run_histories(options: &Options) -> Result<(), String> {
     for (what, seen) in [
         ("histories", seen.histories),
         ("corrections by a number with leading zeros in its exponent", seen.zeros),
+        ("corrections by one with over 10,000 of them", seen.many_zeros),
         ("single calls", seen.single),
     ] {
         let refused = (1..=20).filter(|&number| seen[number] > 0);
