@@ -37,7 +37,7 @@ pub data Followed (base : ℕ) (s : List ℕ) (n : ℕ) : (t : List ℕ) (m coun
   by-underscore : (t : List ℕ) (m count b : ℕ) → Followed base s n t m count → isDigitIn base b ≡ true
       → Followed base s n (t ++ (code "_" ∷ b ∷ [])) (m * base + digitValue b) (suc count)
 
--- "one or more digits, with a single underscore allowed between digits, and leading zeros allowed", and the number that they make
+-- "one or more digits, with a single underscore allowed between digits, and leading zeros allowed", of any base, and the number that they make
 pub data Digits (base : ℕ) : (s : List ℕ) (n : ℕ) → Type 0 where
   digits : (b : ℕ) (s : List ℕ) (n count : ℕ) → isDigitIn base b ≡ true → Followed base (b ∷ []) (digitValue b) s n count → Digits base s n
 
@@ -95,7 +95,7 @@ pub data Numeral : (s : List ℕ) (x : Meaning) → Type 0 where
 
 -- these bytes, read as a number token, mean what the grammar says; where it has no such number, they are malformed
 pub record ByTheGrammar (s : List ℕ) : Type 0 where
-  pub meant : (x : Meaning) → Numeral s x → number s ≡ x
+  pub means : (x : Meaning) → Numeral s x → number s ≡ x
   pub malformed : ((x : Meaning) → Numeral s x → ⊥) → number s ≡ Malformed
 
 -- "Numbers (000's grammar)", with "From now an exponent is an optional sign and one or more digits .."

@@ -51,31 +51,38 @@ data Read : List ℕ → Number → Type 0 where
       → OptionalSign sg below → Digits 10 s n → Read ((front ++ (sg ++ s)) ++ (code "_" ∷ [])) (ExpGap minus m places below n)
   at-bad : (s : List ℕ) → Read s Bad
 
--- ---- bytes that have one meaning in several states
+-- ---- the next byte
 
 -- what holds of a byte holds of one that is the same
 from-byte : (P : ℕ → Type 0) (c b : ℕ) → T (eqb b c) → P c → P b
 from-byte P c b t p = subst P (sym (eqb-true b c (is-true (eqb b c) t))) p
 
--- the same bytes, put together otherwise
-again : (s t : List ℕ) (x : Number) → s ≡ t → Read s x → Read t x
-again s t x e r = subst (λ (l : List ℕ). Read l x) e r
+-- a choice by a test of it
+either : {t : List ℕ} {x y : Number} (c : Bool) → (T c → Read t x) → Read t y → Read t (cond c x y)
+either {t} c f r = cond-both (Read t) c f (λ u. r)
 
-after-gap : (a s : List ℕ) (b : ℕ) → ((a ++ s) ++ (code "_" ∷ [])) ++ (b ∷ []) ≡ a ++ (s ++ (code "_" ∷ b ∷ []))
-after-gap a s b = append-assoc (a ++ s) (95 ∷ []) (b ∷ []) ∙ append-assoc a s (95 ∷ b ∷ [])
+-- a digit or not; the bytes with the digit are put together in two ways
+digit-else : {s t : List ℕ} {x y : Number} (base b : ℕ) → s ≡ t → (isDigitIn base b ≡ true → Read s x) → Read t y
+    → Read t (cond (isDigitIn base b) x y)
+digit-else {s} {t} {x} base b e f r =
+    either (isDigitIn base b) (λ u. subst (λ (l : List ℕ). Read l x) e (f (is-true (isDigitIn base b) u))) r
 
-after-two : (a s t u : List ℕ) → (a ++ (s ++ t)) ++ u ≡ a ++ (s ++ (t ++ u))
-after-two a s t u = append-assoc a (s ++ t) u ∙ ap (λ (l : List ℕ). a ++ l) (append-assoc s t u)
+-- one byte behind two parts, behind two parts and an underscore, and bytes behind three parts
+behind : (a s : List ℕ) (b : ℕ) → a ++ (s ++ (b ∷ [])) ≡ (a ++ s) ++ (b ∷ [])
+behind a s b = sym (append-assoc a s (b ∷ []))
+
+behind-gap : (a s : List ℕ) (c b : ℕ) → a ++ (s ++ (c ∷ b ∷ [])) ≡ ((a ++ s) ++ (c ∷ [])) ++ (b ∷ [])
+behind-gap a s c b = sym (append-assoc (a ++ s) (c ∷ []) (b ∷ []) ∙ append-assoc a s (c ∷ b ∷ []))
+
+behind-three : (a s t u : List ℕ) → a ++ (s ++ (t ++ u)) ≡ (a ++ (s ++ t)) ++ u
+behind-three a s t u = sym (append-assoc a (s ++ t) u ∙ ap (λ (l : List ℕ). a ++ l) (append-assoc s t u))
 
 -- the first digit of an integer part
 begun : (sg : List ℕ) (minus : Bool) (b : ℕ) → OptionalSign sg minus
     → Read (sg ++ (b ∷ [])) (cond (isZero b) (Zero (hasSign sg) minus) (cond (isOneToNine b) (Digit minus (digitValue b)) Bad))
 begun sg minus b o =
-    cond-both (Read (sg ++ (b ∷ []))) (isZero b)
-    (λ t. from-byte (λ (c : ℕ). Read (sg ++ (c ∷ [])) (Zero (hasSign sg) minus)) 48 b t (at-zero sg minus o))
-    (λ t.
-    cond-both (Read (sg ++ (b ∷ []))) (isOneToNine b)
-    (λ u. at-digit sg (b ∷ []) minus b (digitValue b) 0 o (is-true (isOneToNine b) u) by-none) (λ u. at-bad (sg ++ (b ∷ []))))
+    either (isZero b) (λ t. from-byte (λ (c : ℕ). Read (sg ++ (c ∷ [])) (Zero (hasSign sg) minus)) 48 b t (at-zero sg minus o))
+    (either (isOneToNine b) (λ t. at-digit sg (b ∷ []) minus b (digitValue b) 0 o (is-true (isOneToNine b) t) by-none) (at-bad (sg ++ (b ∷ []))))
 
 -- a point behind an integer part
 dotted : (sg s : List ℕ) (minus : Bool) (m b : ℕ) → OptionalSign sg minus → IntegerPart s m → T (is "." b)
@@ -86,7 +93,7 @@ dotted sg s minus m b o w t = from-byte (λ (c : ℕ). Read ((sg ++ s) ++ (c ∷
 marked : (sg s : List ℕ) (minus : Bool) (m places b : ℕ) → OptionalSign sg minus → Mantissa s m places → T (isE b)
     → Read ((sg ++ s) ++ (b ∷ [])) (Mark minus m places)
 marked sg s minus m places b o w t =
-    again (sg ++ (s ++ (b ∷ []))) ((sg ++ s) ++ (b ∷ [])) (Mark minus m places) (sym (append-assoc sg s (b ∷ [])))
+    subst (λ (l : List ℕ). Read l (Mark minus m places)) (behind sg s b)
     (at-mark (sg ++ (s ++ (b ∷ []))) minus m places (up-to-e sg s minus m places b o w (is-true (isE b) t)))
 
 -- the letter of a base
@@ -106,161 +113,73 @@ nought : IntegerPart (code "0" ∷ []) 0
 unfolding digitValue
 nought = one-digit 48 refl
 
--- ---- one byte more
-
--- behind digits of an integer part
-step-digit : (sg s : List ℕ) (minus : Bool) (c m count b : ℕ) → OptionalSign sg minus → isOneToNine c ≡ true
-    → Followed 10 (c ∷ []) (digitValue c) s m count → Read ((sg ++ s) ++ (b ∷ [])) (numberStep (Digit minus m) b)
-unfolding numberStep
-step-digit sg s minus c m count b o e f =
-    cond-both (Read now) (isDigitIn 10 b)
-    (λ t.
-    again (sg ++ (s ++ (b ∷ []))) now (Digit minus (m * 10 + digitValue b)) (sym (append-assoc sg s (b ∷ [])))
-    (at-digit sg (s ++ (b ∷ [])) minus c (m * 10 + digitValue b) (suc count) o e (by-digit s m count b f (is-true (isDigitIn 10 b) t))))
-    (λ t.
-    cond-both (Read now) (is "_" b)
-    (λ u. from-byte (λ (x : ℕ). Read ((sg ++ s) ++ (x ∷ [])) (Gap minus m)) 95 b u (at-gap sg s minus c m count o e f))
-    (λ u.
-    cond-both (Read now) (is "." b) (dotted sg s minus m b o (more-digits c s m count e f))
-    (λ v. cond-both (Read now) (isE b) (marked sg s minus m 0 b o (no-fraction s m (more-digits c s m count e f))) (λ w. at-bad now))))
-  where
-    now : List ℕ
-    now = (sg ++ s) ++ (b ∷ [])
-
--- behind digits of a fraction
-step-fraction : (sg s : List ℕ) (minus : Bool) (m places b : ℕ) → OptionalSign sg minus → WithFraction s m places
-    → Read ((sg ++ s) ++ (b ∷ [])) (numberStep (Fraction minus m places) b)
-unfolding numberStep
-step-fraction sg s minus m places b o w =
-    cond-both (Read now) (isDigitIn 10 b)
-    (λ t.
-    again (sg ++ (s ++ (b ∷ []))) now (Fraction minus (m * 10 + digitValue b) (suc places)) (sym (append-assoc sg s (b ∷ [])))
-    (at-fraction sg (s ++ (b ∷ [])) minus (m * 10 + digitValue b) (suc places) o (fraction-more s m places b w (is-true (isDigitIn 10 b) t))))
-    (λ t.
-    cond-both (Read now) (is "_" b)
-    (λ u. from-byte (λ (x : ℕ). Read ((sg ++ s) ++ (x ∷ [])) (FractionGap minus m places)) 95 b u (at-fraction-gap sg s minus m places o w))
-    (λ u. cond-both (Read now) (isE b) (marked sg s minus m places b o (fraction s m places w)) (λ v. at-bad now)))
-  where
-    now : List ℕ
-    now = (sg ++ s) ++ (b ∷ [])
-
--- behind digits of an exponent
-step-exponent : (front sg s : List ℕ) (minus : Bool) (m places : ℕ) (below : Bool) (n b : ℕ) → UpToE front minus m places → OptionalSign sg below
-    → Digits 10 s n → Read ((front ++ (sg ++ s)) ++ (b ∷ [])) (numberStep (ExpDigit minus m places below n) b)
-unfolding numberStep
-step-exponent front sg s minus m places below n b u o d =
-    cond-both (Read now) (isDigitIn 10 b)
-    (λ t.
-    again (front ++ (sg ++ (s ++ (b ∷ [])))) now (ExpDigit minus m places below (n * 10 + digitValue b)) (sym (after-two front sg s (b ∷ [])))
-    (at-exponent front sg (s ++ (b ∷ [])) minus m places below (n * 10 + digitValue b) u o (digit-more 10 s n b d (is-true (isDigitIn 10 b) t))))
-    (λ t.
-    cond-both (Read now) (is "_" b)
-    (λ v.
-    from-byte (λ (x : ℕ). Read ((front ++ (sg ++ s)) ++ (x ∷ [])) (ExpGap minus m places below n)) 95 b v
-    (at-exponent-gap front sg s minus m places below n u o d))
-    (λ v. at-bad now))
-  where
-    now : List ℕ
-    now = (front ++ (sg ++ s)) ++ (b ∷ [])
-
 step-read : (s : List ℕ) (x : Number) (b : ℕ) → Read s x → Read (s ++ (b ∷ [])) (numberStep x b)
 unfolding numberStep
-step-read s x b at-start = cond-both (Read (b ∷ [])) (isSign b) (λ t. at-sign b (is-true (isSign b) t)) (λ t. begun [] false b none)
+step-read s x b at-start = either (isSign b) (λ t. at-sign b (is-true (isSign b) t)) (begun [] false b none)
 step-read s x b (at-sign c e) = begun (c ∷ []) (is "-" c) b (signed c e)
 step-read s x b (at-zero sg minus none) =
-    cond-both (Read (48 ∷ b ∷ [])) (is "." b) (dotted [] (48 ∷ []) false 0 b none nought)
-    (λ t.
-    cond-both (Read (48 ∷ b ∷ [])) (isE b) (marked [] (48 ∷ []) false 0 0 b none (no-fraction (48 ∷ []) 0 nought))
-    (λ u.
-    cond-both (Read (48 ∷ b ∷ [])) (ltb 0 (baseOf b)) (λ v. at-prefix b (baseOf b) (letter b v)) (λ v. at-bad (48 ∷ b ∷ []))))
+    either (is "." b) (dotted [] (48 ∷ []) false 0 b none nought)
+    (either (isE b) (marked [] (48 ∷ []) false 0 0 b none (no-fraction (48 ∷ []) 0 nought))
+    (either (ltb 0 (baseOf b)) (λ t. at-prefix b (baseOf b) (letter b t)) (at-bad (48 ∷ b ∷ []))))
 step-read s x b (at-zero sg minus (signed c e)) =
-    cond-both (Read (c ∷ 48 ∷ b ∷ [])) (is "." b) (dotted (c ∷ []) (48 ∷ []) (is "-" c) 0 b (signed c e) nought)
-    (λ t.
-    cond-both (Read (c ∷ 48 ∷ b ∷ [])) (isE b) (marked (c ∷ []) (48 ∷ []) (is "-" c) 0 0 b (signed c e) (no-fraction (48 ∷ []) 0 nought))
-    (λ u. at-bad (c ∷ 48 ∷ b ∷ [])))
-step-read s x b (at-digit sg r minus c m count o e f) = step-digit sg r minus c m count b o e f
+    either (is "." b) (dotted (c ∷ []) (48 ∷ []) (is "-" c) 0 b (signed c e) nought)
+    (either (isE b) (marked (c ∷ []) (48 ∷ []) (is "-" c) 0 0 b (signed c e) (no-fraction (48 ∷ []) 0 nought)) (at-bad (c ∷ 48 ∷ b ∷ [])))
+step-read s x b (at-digit sg r minus c m count o e f) =
+    digit-else 10 b (behind sg r b)
+    (λ d. at-digit sg (r ++ (b ∷ [])) minus c (m * 10 + digitValue b) (suc count) o e (by-digit r m count b f d))
+    (either (is "_" b) (λ t. from-byte (λ (y : ℕ). Read ((sg ++ r) ++ (y ∷ [])) (Gap minus m)) 95 b t (at-gap sg r minus c m count o e f))
+    (either (is "." b) (dotted sg r minus m b o (more-digits c r m count e f))
+    (either (isE b) (marked sg r minus m 0 b o (no-fraction r m (more-digits c r m count e f))) (at-bad ((sg ++ r) ++ (b ∷ []))))))
 step-read s x b (at-gap sg r minus c m count o e f) =
-    cond-both (Read now) (isDigitIn 10 b)
-    (λ t.
-    again (sg ++ (r ++ (95 ∷ b ∷ []))) now (Digit minus (m * 10 + digitValue b)) (sym (after-gap sg r b))
-    (at-digit sg (r ++ (95 ∷ b ∷ [])) minus c (m * 10 + digitValue b) (suc count) o e (by-underscore r m count b f (is-true (isDigitIn 10 b) t))))
-    (λ t. at-bad now)
-  where
-    now : List ℕ
-    now = ((sg ++ r) ++ (95 ∷ [])) ++ (b ∷ [])
+    digit-else 10 b (behind-gap sg r 95 b)
+    (λ d. at-digit sg (r ++ (95 ∷ b ∷ [])) minus c (m * 10 + digitValue b) (suc count) o e (by-underscore r m count b f d))
+    (at-bad (((sg ++ r) ++ (95 ∷ [])) ++ (b ∷ [])))
 step-read s x b (at-dot sg r minus m o w) =
-    cond-both (Read now) (isDigitIn 10 b)
-    (λ t.
-    again (sg ++ (r ++ (46 ∷ b ∷ []))) now (Fraction minus (m * 10 + digitValue b) 1)
-    (sym (append-assoc (sg ++ r) (46 ∷ []) (b ∷ []) ∙ append-assoc sg r (46 ∷ b ∷ [])))
-    (at-fraction sg (r ++ (46 ∷ b ∷ [])) minus (m * 10 + digitValue b) 1 o
-    (with-fraction r (r ++ (46 ∷ b ∷ [])) m (m * 10 + digitValue b) b 0 w (is-true (isDigitIn 10 b) t) by-none)))
-    (λ t. at-bad now)
-  where
-    now : List ℕ
-    now = ((sg ++ r) ++ (46 ∷ [])) ++ (b ∷ [])
-step-read s x b (at-fraction sg r minus m places o w) = step-fraction sg r minus m places b o w
+    digit-else 10 b (behind-gap sg r 46 b)
+    (λ d.
+    at-fraction sg (r ++ (46 ∷ b ∷ [])) minus (m * 10 + digitValue b) 1 o
+    (with-fraction r (r ++ (46 ∷ b ∷ [])) m (m * 10 + digitValue b) b 0 w d by-none))
+    (at-bad (((sg ++ r) ++ (46 ∷ [])) ++ (b ∷ [])))
+step-read s x b (at-fraction sg r minus m places o w) =
+    digit-else 10 b (behind sg r b)
+    (λ d. at-fraction sg (r ++ (b ∷ [])) minus (m * 10 + digitValue b) (suc places) o (fraction-more r m places b w d))
+    (either (is "_" b)
+    (λ t. from-byte (λ (y : ℕ). Read ((sg ++ r) ++ (y ∷ [])) (FractionGap minus m places)) 95 b t (at-fraction-gap sg r minus m places o w))
+    (either (isE b) (marked sg r minus m places b o (fraction r m places w)) (at-bad ((sg ++ r) ++ (b ∷ [])))))
 step-read s x b (at-fraction-gap sg r minus m places o w) =
-    cond-both (Read now) (isDigitIn 10 b)
-    (λ t.
-    again (sg ++ (r ++ (95 ∷ b ∷ []))) now (Fraction minus (m * 10 + digitValue b) (suc places)) (sym (after-gap sg r b))
-    (at-fraction sg (r ++ (95 ∷ b ∷ [])) minus (m * 10 + digitValue b) (suc places) o
-    (fraction-underscore r m places b w (is-true (isDigitIn 10 b) t))))
-    (λ t. at-bad now)
-  where
-    now : List ℕ
-    now = ((sg ++ r) ++ (95 ∷ [])) ++ (b ∷ [])
+    digit-else 10 b (behind-gap sg r 95 b)
+    (λ d. at-fraction sg (r ++ (95 ∷ b ∷ [])) minus (m * 10 + digitValue b) (suc places) o (fraction-underscore r m places b w d))
+    (at-bad (((sg ++ r) ++ (95 ∷ [])) ++ (b ∷ [])))
 step-read s x b (at-prefix c base l) =
-    cond-both (Read (48 ∷ c ∷ b ∷ [])) (isDigitIn base b)
-    (λ t. at-based c base (b ∷ []) (digitValue b) l (digit-alone base b (is-true (isDigitIn base b) t))) (λ t. at-bad (48 ∷ c ∷ b ∷ []))
+    digit-else base b refl (λ d. at-based c base (b ∷ []) (digitValue b) l (digit-alone base b d)) (at-bad (48 ∷ c ∷ b ∷ []))
 step-read s x b (at-based c base r n l d) =
-    cond-both (Read (48 ∷ c ∷ (r ++ (b ∷ [])))) (isDigitIn base b)
-    (λ t. at-based c base (r ++ (b ∷ [])) (n * base + digitValue b) l (digit-more base r n b d (is-true (isDigitIn base b) t)))
-    (λ t.
-    cond-both (Read (48 ∷ c ∷ (r ++ (b ∷ [])))) (is "_" b)
-    (λ u. from-byte (λ (y : ℕ). Read (48 ∷ c ∷ (r ++ (y ∷ []))) (BasedGap base n)) 95 b u (at-based-gap c base r n l d))
-    (λ u. at-bad (48 ∷ c ∷ (r ++ (b ∷ [])))))
+    digit-else base b refl (λ e. at-based c base (r ++ (b ∷ [])) (n * base + digitValue b) l (digit-more base r n b d e))
+    (either (is "_" b) (λ t. from-byte (λ (y : ℕ). Read (48 ∷ c ∷ (r ++ (y ∷ []))) (BasedGap base n)) 95 b t (at-based-gap c base r n l d))
+    (at-bad (48 ∷ c ∷ (r ++ (b ∷ [])))))
 step-read s x b (at-based-gap c base r n l d) =
-    cond-both (Read now) (isDigitIn base b)
-    (λ t.
-    again (48 ∷ c ∷ (r ++ (95 ∷ b ∷ []))) now (Based base (n * base + digitValue b))
-    (ap (λ (y : List ℕ). 48 ∷ c ∷ y) (sym (append-assoc r (95 ∷ []) (b ∷ []))))
-    (at-based c base (r ++ (95 ∷ b ∷ [])) (n * base + digitValue b) l (underscore-more base r n b d (is-true (isDigitIn base b) t))))
-    (λ t. at-bad now)
-  where
-    now : List ℕ
-    now = 48 ∷ c ∷ ((r ++ (95 ∷ [])) ++ (b ∷ []))
+    digit-else base b (behind-gap (48 ∷ c ∷ []) r 95 b)
+    (λ e. at-based c base (r ++ (95 ∷ b ∷ [])) (n * base + digitValue b) l (underscore-more base r n b d e))
+    (at-bad (48 ∷ c ∷ ((r ++ (95 ∷ [])) ++ (b ∷ []))))
 step-read s x b (at-mark front minus m places u) =
-    cond-both (Read now) (isSign b) (λ t. at-exponent-sign front minus m places b u (is-true (isSign b) t))
-    (λ t.
-    cond-both (Read now) (isDigitIn 10 b)
-    (λ v. at-exponent front [] (b ∷ []) minus m places false (digitValue b) u none (digit-alone 10 b (is-true (isDigitIn 10 b) v)))
-    (λ v. at-bad now))
-  where
-    now : List ℕ
-    now = front ++ (b ∷ [])
+    either (isSign b) (λ t. at-exponent-sign front minus m places b u (is-true (isSign b) t))
+    (digit-else 10 b refl (λ d. at-exponent front [] (b ∷ []) minus m places false (digitValue b) u none (digit-alone 10 b d))
+    (at-bad (front ++ (b ∷ []))))
 step-read s x b (at-exponent-sign front minus m places c u e) =
-    cond-both (Read now) (isDigitIn 10 b)
+    digit-else 10 b (behind front (c ∷ []) b)
+    (λ d. at-exponent front (c ∷ []) (b ∷ []) minus m places (is "-" c) (digitValue b) u (signed c e) (digit-alone 10 b d))
+    (at-bad ((front ++ (c ∷ [])) ++ (b ∷ [])))
+step-read s x b (at-exponent front sg r minus m places below n u o d) =
+    digit-else 10 b (behind-three front sg r (b ∷ []))
+    (λ e. at-exponent front sg (r ++ (b ∷ [])) minus m places below (n * 10 + digitValue b) u o (digit-more 10 r n b d e))
+    (either (is "_" b)
     (λ t.
-    again (front ++ (c ∷ b ∷ [])) now (ExpDigit minus m places (is "-" c) (digitValue b)) (sym (append-assoc front (c ∷ []) (b ∷ [])))
-    (at-exponent front (c ∷ []) (b ∷ []) minus m places (is "-" c) (digitValue b) u (signed c e)
-    (digit-alone 10 b (is-true (isDigitIn 10 b) t))))
-    (λ t. at-bad now)
-  where
-    now : List ℕ
-    now = (front ++ (c ∷ [])) ++ (b ∷ [])
-step-read s x b (at-exponent front sg r minus m places below n u o d) = step-exponent front sg r minus m places below n b u o d
+    from-byte (λ (y : ℕ). Read ((front ++ (sg ++ r)) ++ (y ∷ [])) (ExpGap minus m places below n)) 95 b t
+    (at-exponent-gap front sg r minus m places below n u o d))
+    (at-bad ((front ++ (sg ++ r)) ++ (b ∷ []))))
 step-read s x b (at-exponent-gap front sg r minus m places below n u o d) =
-    cond-both (Read now) (isDigitIn 10 b)
-    (λ t.
-    again (front ++ (sg ++ (r ++ (95 ∷ b ∷ [])))) now (ExpDigit minus m places below (n * 10 + digitValue b))
-    (sym (append-assoc (front ++ (sg ++ r)) (95 ∷ []) (b ∷ []) ∙ after-two front sg r (95 ∷ b ∷ [])))
-    (at-exponent front sg (r ++ (95 ∷ b ∷ [])) minus m places below (n * 10 + digitValue b) u o
-    (underscore-more 10 r n b d (is-true (isDigitIn 10 b) t))))
-    (λ t. at-bad now)
-  where
-    now : List ℕ
-    now = ((front ++ (sg ++ r)) ++ (95 ∷ [])) ++ (b ∷ [])
+    digit-else 10 b (behind-three front sg r (95 ∷ b ∷ []) ∙ sym (append-assoc (front ++ (sg ++ r)) (95 ∷ []) (b ∷ [])))
+    (λ e. at-exponent front sg (r ++ (95 ∷ b ∷ [])) minus m places below (n * 10 + digitValue b) u o (underscore-more 10 r n b d e))
+    (at-bad (((front ++ (sg ++ r)) ++ (95 ∷ [])) ++ (b ∷ [])))
 step-read s x b (at-bad t) = at-bad (t ++ (b ∷ []))
 
 feed-read : (t s : List ℕ) (x : Number) → Read s x → Read (s ++ t) (feed numberStep x t)
@@ -301,6 +220,6 @@ pub numbers-read : NumbersRead
 unfolding NumbersRead number
 numbers-read s =
     record {
-      meant = numeral-meant s;
+      means = numeral-meant s;
       malformed = λ f. read-malformed s (feed numberStep Start s) (feed-read s [] Start at-start) f;
     }
