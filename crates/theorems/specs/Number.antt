@@ -1,6 +1,6 @@
 -- Numbers by their grammar, in the papers' own words and apart from the machine that reads them: which bytes are a number and what it means,
 -- with the exponents of Req 02; that leading zeros of an exponent change nothing; and both on numbers that are worked out by hand.
--- Shared with the machine are the tests of a byte and the value of a digit (`isSign`, `isOneToNine`, `isE`, `is`, `isDigitIn`, `digitValue`),
+-- Shared with the machine are the tests of a byte and the value of a digit (`isSign`, `isE`, `is`, `between`, `isDigitIn`, `digitValue`),
 -- `signedBy`, and the ranges (`asInteger`, `asDecimal`).
 -- By its contract `number_of` (literals/src/number.rt) answers `number`, and a number in a text means `number` of its bytes (`numberItem`
 -- in lexer/specs/Token.antt).
@@ -14,10 +14,10 @@ use mathlib.Core.List.{List, [], _∷_, _++_}
 use lib.ListN.{replicate}
 use lib.IntN.{ℤ, pos, negsuc, negℤ, _+ℤ_}
 use Rattle.text.specs.Switches.{presentEdition}
-use Rattle.text.specs.Bytes.{ascii, is, isDigitIn, digitValue}
+use Rattle.text.specs.Bytes.{ascii, is, between, isDigitIn, digitValue}
 use Rattle.literals.specs.declared.number.Meaning.{Meaning}
 use Rattle.literals.specs.declared.number.Meaning.the-variants.{Integer, Decimal, Malformed, TooWide}
-use Rattle.literals.specs.Number.{isSign, isOneToNine, isE, signedBy, asInteger, asDecimal, number}
+use Rattle.literals.specs.Number.{isSign, isE, signedBy, asInteger, asDecimal, number}
 use Rattle.reader.specs.Syntax.{Outcome, refused}
 use Rattle.reader.specs.Reading.{reading, tableOf}
 
@@ -28,14 +28,17 @@ pub data OptionalSign : (s : List ℕ) (minus : Bool) → Type 0 where
   none : OptionalSign [] false
   signed : (b : ℕ) → isSign b ≡ true → OptionalSign (b ∷ []) (is "-" b)
 
--- "followed by more, a single `_` allowed between two digits": the bytes s, which end with a digit of this base, and then `count` digits more,
--- are the bytes t. The digits of s make the whole number n, and those of t make m
+-- "a single `_` allowed between two digits"
+pub data OptionalUnderscore : (s : List ℕ) → Type 0 where
+  no-underscore : OptionalUnderscore []
+  underscore : OptionalUnderscore (code "_" ∷ [])
+
+-- "followed by more": the bytes s, which end with a digit of this base, and then `count` digits more, are the bytes t. The digits of s make the
+-- whole number n, and those of t make m
 pub data Followed (base : ℕ) (s : List ℕ) (n : ℕ) : (t : List ℕ) (m count : ℕ) → Type 0 where
   by-none : Followed base s n s n 0
-  by-digit : (t : List ℕ) (m count b : ℕ) → Followed base s n t m count → isDigitIn base b ≡ true
-      → Followed base s n (t ++ (b ∷ [])) (m * base + digitValue b) (suc count)
-  by-underscore : (t : List ℕ) (m count b : ℕ) → Followed base s n t m count → isDigitIn base b ≡ true
-      → Followed base s n (t ++ (code "_" ∷ b ∷ [])) (m * base + digitValue b) (suc count)
+  by-digit : (t gap : List ℕ) (m count b : ℕ) → Followed base s n t m count → OptionalUnderscore gap → isDigitIn base b ≡ true
+      → Followed base s n (t ++ (gap ++ (b ∷ []))) (m * base + digitValue b) (suc count)
 
 -- "one or more digits, with a single underscore allowed between digits, and leading zeros allowed", of any base, and the number that they make
 pub data Digits (base : ℕ) : (s : List ℕ) (n : ℕ) → Type 0 where
@@ -46,7 +49,7 @@ pub data Digits (base : ℕ) : (s : List ℕ) (n : ℕ) → Type 0 where
 -- a decimal integer without its sign: "one digit, or a nonzero digit followed by more"
 pub data IntegerPart : (s : List ℕ) (n : ℕ) → Type 0 where
   one-digit : (b : ℕ) → isDigitIn 10 b ≡ true → IntegerPart (b ∷ []) (digitValue b)
-  more-digits : (b : ℕ) (s : List ℕ) (n count : ℕ) → isOneToNine b ≡ true → Followed 10 (b ∷ []) (digitValue b) s n count → IntegerPart s n
+  more-digits : (b : ℕ) (s : List ℕ) (n count : ℕ) → between "1" "9" b ≡ true → Followed 10 (b ∷ []) (digitValue b) s n count → IntegerPart s n
 
 -- "`0x` `0o` `0b` in small letters": the letter and the base that it names
 pub data BaseLetter : (b base : ℕ) → Type 0 where
@@ -142,7 +145,7 @@ pub record ExponentsByHand : Type 0 where
   pub after-minus : meant "-1.50e-007" ≡ Decimal true 150 (negsuc 8)
   pub zeros-alone : meant "1e-00" ≡ Decimal false 1 (pos 0)
   -- "a single underscore allowed between digits"
-  pub underscore : meant "1e0_6" ≡ Decimal false 1 (pos 6)
+  pub between-digits : meant "1e0_6" ≡ Decimal false 1 (pos 6)
   pub first-underscore : meant "1e_5" ≡ Malformed
   pub last-underscore : meant "1e5_" ≡ Malformed
   pub two-underscores : meant "1e5__0" ≡ Malformed

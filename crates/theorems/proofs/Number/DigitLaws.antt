@@ -6,14 +6,14 @@ use Prim.Native.Char.{code}
 use native.Mathlib.Omega.{arith}
 use mathlib.Core.Bool.{Bool, true, false, true≢false}
 use mathlib.Core.List.{List, [], _∷_, _++_}
-use lib.Dec.{T, leb}
+use lib.Dec.{T, leb, eqb}
 use borrow.Author.Tests.{leb-true, eqb-true, eqb-false, le-leb, le-ltb}
 use Rattle.text.specs.Bytes.{feed, is, between, isDigit, isDigitIn, digitValue}
 use Rattle.text.proofs.Choice.{cond-both, is-true, and-left, and-right, or-case}
 use Rattle.text.proofs.FeedLaws.{feed-append}
 use Rattle.literals.specs.declared.number.Number.{Number}
 use Rattle.literals.specs.Number.{isOneToNine, isE, numberStep}
-use Rattle.theorems.specs.Number.{Followed, by-none, by-digit, by-underscore, Digits, digits, WithFraction, with-fraction}
+use Rattle.theorems.specs.Number.{OptionalUnderscore, no-underscore, underscore, Followed, by-none, by-digit, Digits, digits, WithFraction, with-fraction}
 
 -- ---- bytes
 
@@ -43,11 +43,13 @@ other-digit b e f =
     let n = eqb-false b 48 f in
     rw (le-leb 49 b (omega (arith, n)), and-right (leb 48 b) (leb b 57) (is-digit b e))
 
--- what holds of `e` and of `E` holds of a byte that is one of them
+-- what holds of a byte holds of one that is the same, and what holds of `e` and of `E` of one that is either
+pub from-byte : (P : ℕ → Type 0) (c b : ℕ) → T (eqb b c) → P c → P b
+from-byte P c b t p = subst P (sym (eqb-true b c (is-true (eqb b c) t))) p
+
 pub e-case : (P : ℕ → Type 0) (b : ℕ) → isE b ≡ true → P (code "e") → P (code "E") → P b
 e-case P b e small capital =
-    or-case (is "e" b) (is "E" b) (P b) (subst T (sym e) tt) (λ t. subst P (sym (eqb-true b 101 (is-true (is "e" b) t))) small)
-    (λ t. subst P (sym (eqb-true b 69 (is-true (is "E" b) t))) capital)
+    or-case (is "e" b) (is "E" b) (P b) (subst T (sym e) tt) (λ t. from-byte P 101 b t small) (λ t. from-byte P 69 b t capital)
 
 -- ---- digits under the machine
 
@@ -60,11 +62,11 @@ module _ (base : ℕ) where
       → feed numberStep n t ≡ state m count
   unfolding feed
   followed-fed n state f g s v h t m count by-none = h
-  followed-fed n state f g s v h t m count (by-digit u k j b d e) =
+  followed-fed n state f g s v h t m count (by-digit u gap k j b d no-underscore e) =
       feed-append numberStep n u (b ∷ [])
       ∙ ap (λ (x : Number). numberStep x b) (followed-fed n state f g s v h u k j d)
       ∙ f k j b e
-  followed-fed n state f g s v h t m count (by-underscore u k j b d e) =
+  followed-fed n state f g s v h t m count (by-digit u gap k j b d underscore e) =
       feed-append numberStep n u (95 ∷ b ∷ [])
       ∙ ap (λ (x : Number). numberStep (numberStep x 95) b) (followed-fed n state f g s v h u k j d)
       ∙ g k j b e
@@ -81,24 +83,16 @@ module _ (base : ℕ) where
 
   -- ---- a digit more
 
-  -- one digit, and one digit more, behind an underscore or not
+  -- one digit, and one digit more
   pub digit-alone : (b : ℕ) → isDigitIn base b ≡ true → Digits base (b ∷ []) (digitValue b)
   digit-alone b e = digits b (b ∷ []) (digitValue b) 0 e by-none
 
-  pub digit-more : (s : List ℕ) (n b : ℕ) → Digits base s n → isDigitIn base b ≡ true → Digits base (s ++ (b ∷ [])) (n * base + digitValue b)
-  digit-more s n b (digits c u v k e f) g = digits c (u ++ (b ∷ [])) (v * base + digitValue b) (suc k) e (by-digit u v k b f g)
-
-  pub underscore-more : (s : List ℕ) (n b : ℕ) → Digits base s n → isDigitIn base b ≡ true
-      → Digits base (s ++ (code "_" ∷ b ∷ [])) (n * base + digitValue b)
-  underscore-more s n b (digits c u v k e f) g = digits c (u ++ (95 ∷ b ∷ [])) (v * base + digitValue b) (suc k) e (by-underscore u v k b f g)
+  pub digit-more : (s gap : List ℕ) (n b : ℕ) → Digits base s n → OptionalUnderscore gap → isDigitIn base b ≡ true
+      → Digits base (s ++ (gap ++ (b ∷ []))) (n * base + digitValue b)
+  digit-more s gap n b (digits c u v k e f) o g = digits c (u ++ (gap ++ (b ∷ []))) (v * base + digitValue b) (suc k) e (by-digit u gap v k b f o g)
 
 -- the same of a fraction
-pub fraction-more : (s : List ℕ) (m places b : ℕ) → WithFraction s m places → isDigitIn 10 b ≡ true
-    → WithFraction (s ++ (b ∷ [])) (m * 10 + digitValue b) (suc places)
-fraction-more s m places b (with-fraction w t n k c count h d f) e =
-    with-fraction w (t ++ (b ∷ [])) n (k * 10 + digitValue b) c (suc count) h d (by-digit t k count b f e)
-
-pub fraction-underscore : (s : List ℕ) (m places b : ℕ) → WithFraction s m places → isDigitIn 10 b ≡ true
-    → WithFraction (s ++ (code "_" ∷ b ∷ [])) (m * 10 + digitValue b) (suc places)
-fraction-underscore s m places b (with-fraction w t n k c count h d f) e =
-    with-fraction w (t ++ (95 ∷ b ∷ [])) n (k * 10 + digitValue b) c (suc count) h d (by-underscore t k count b f e)
+pub fraction-more : (s gap : List ℕ) (m places b : ℕ) → WithFraction s m places → OptionalUnderscore gap → isDigitIn 10 b ≡ true
+    → WithFraction (s ++ (gap ++ (b ∷ []))) (m * 10 + digitValue b) (suc places)
+fraction-more s gap m places b (with-fraction w t n k c count h d f) o e =
+    with-fraction w (t ++ (gap ++ (b ∷ []))) n (k * 10 + digitValue b) c (suc count) h d (by-digit t gap k count b f o e)

@@ -5,9 +5,8 @@ use Prim.Native.Nat.{ℕ, suc, _+_, _*_}
 use Prim.Native.Char.{code}
 use mathlib.Core.Bool.{Bool, true, false, cond}
 use mathlib.Core.List.{List, [], _∷_, _++_, append-assoc, append-nil}
-use lib.Dec.{T, ltb, eqb}
+use lib.Dec.{T, ltb}
 use lib.IntN.{pos, negℤ, _+ℤ_}
-use borrow.Author.Tests.{eqb-true}
 use Rattle.text.specs.Bytes.{feed, is, isDigitIn, digitValue}
 use Rattle.text.proofs.Choice.{cond-both, is-true}
 use Rattle.literals.specs.declared.number.Number.{Number}
@@ -15,8 +14,8 @@ use Rattle.literals.specs.declared.number.Number.the-variants.{Start, Bad, Sign
 use Rattle.literals.specs.declared.number.Meaning.{Meaning}
 use Rattle.literals.specs.declared.number.Meaning.the-variants.{Malformed}
 use Rattle.literals.specs.Number.{isSign, isZero, isOneToNine, isE, baseOf, numberStep, signedBy, asInteger, asDecimal, meaning, number}
-use Rattle.theorems.specs.Number.{OptionalSign, none, signed, Followed, by-none, by-digit, by-underscore, Digits, IntegerPart, one-digit, more-digits, BaseLetter, hex, octal, binary, WithFraction, with-fraction, Mantissa, no-fraction, fraction, UpToE, up-to-e, exponent, Numeral, integer, based, without-exponent, with-exponent, NumbersRead}
-use Rattle.theorems.proofs.Number.DigitLaws.{digit-alone, digit-more, underscore-more, fraction-more, fraction-underscore}
+use Rattle.theorems.specs.Number.{OptionalSign, none, signed, no-underscore, underscore, Followed, by-none, by-digit, Digits, IntegerPart, one-digit, more-digits, BaseLetter, hex, octal, binary, WithFraction, with-fraction, Mantissa, no-fraction, fraction, UpToE, up-to-e, exponent, Numeral, integer, based, without-exponent, with-exponent, NumbersRead}
+use Rattle.theorems.proofs.Number.DigitLaws.{from-byte, digit-alone, digit-more, fraction-more}
 use Rattle.theorems.proofs.Number.MeantLaw.{numeral-meant}
 
 -- whether a sign stands there
@@ -52,10 +51,6 @@ data Read : List ℕ → Number → Type 0 where
   at-bad : (s : List ℕ) → Read s Bad
 
 -- ---- the next byte
-
--- what holds of a byte holds of one that is the same
-from-byte : (P : ℕ → Type 0) (c b : ℕ) → T (eqb b c) → P c → P b
-from-byte P c b t p = subst P (sym (eqb-true b c (is-true (eqb b c) t))) p
 
 -- a choice by a test of it
 either : {t : List ℕ} {x y : Number} (c : Bool) → (T c → Read t x) → Read t y → Read t (cond c x y)
@@ -126,13 +121,13 @@ step-read s x b (at-zero sg minus (signed c e)) =
     (either (isE b) (marked (c ∷ []) (48 ∷ []) (is "-" c) 0 0 b (signed c e) (no-fraction (48 ∷ []) 0 nought)) (at-bad (c ∷ 48 ∷ b ∷ [])))
 step-read s x b (at-digit sg r minus c m count o e f) =
     digit-else 10 b (behind sg r b)
-    (λ d. at-digit sg (r ++ (b ∷ [])) minus c (m * 10 + digitValue b) (suc count) o e (by-digit r m count b f d))
+    (λ d. at-digit sg (r ++ (b ∷ [])) minus c (m * 10 + digitValue b) (suc count) o e (by-digit r [] m count b f no-underscore d))
     (either (is "_" b) (λ t. from-byte (λ (y : ℕ). Read ((sg ++ r) ++ (y ∷ [])) (Gap minus m)) 95 b t (at-gap sg r minus c m count o e f))
     (either (is "." b) (dotted sg r minus m b o (more-digits c r m count e f))
     (either (isE b) (marked sg r minus m 0 b o (no-fraction r m (more-digits c r m count e f))) (at-bad ((sg ++ r) ++ (b ∷ []))))))
 step-read s x b (at-gap sg r minus c m count o e f) =
     digit-else 10 b (behind-gap sg r 95 b)
-    (λ d. at-digit sg (r ++ (95 ∷ b ∷ [])) minus c (m * 10 + digitValue b) (suc count) o e (by-underscore r m count b f d))
+    (λ d. at-digit sg (r ++ (95 ∷ b ∷ [])) minus c (m * 10 + digitValue b) (suc count) o e (by-digit r (95 ∷ []) m count b f underscore d))
     (at-bad (((sg ++ r) ++ (95 ∷ [])) ++ (b ∷ [])))
 step-read s x b (at-dot sg r minus m o w) =
     digit-else 10 b (behind-gap sg r 46 b)
@@ -142,23 +137,23 @@ step-read s x b (at-dot sg r minus m o w) =
     (at-bad (((sg ++ r) ++ (46 ∷ [])) ++ (b ∷ [])))
 step-read s x b (at-fraction sg r minus m places o w) =
     digit-else 10 b (behind sg r b)
-    (λ d. at-fraction sg (r ++ (b ∷ [])) minus (m * 10 + digitValue b) (suc places) o (fraction-more r m places b w d))
+    (λ d. at-fraction sg (r ++ (b ∷ [])) minus (m * 10 + digitValue b) (suc places) o (fraction-more r [] m places b w no-underscore d))
     (either (is "_" b)
     (λ t. from-byte (λ (y : ℕ). Read ((sg ++ r) ++ (y ∷ [])) (FractionGap minus m places)) 95 b t (at-fraction-gap sg r minus m places o w))
     (either (isE b) (marked sg r minus m places b o (fraction r m places w)) (at-bad ((sg ++ r) ++ (b ∷ [])))))
 step-read s x b (at-fraction-gap sg r minus m places o w) =
     digit-else 10 b (behind-gap sg r 95 b)
-    (λ d. at-fraction sg (r ++ (95 ∷ b ∷ [])) minus (m * 10 + digitValue b) (suc places) o (fraction-underscore r m places b w d))
+    (λ d. at-fraction sg (r ++ (95 ∷ b ∷ [])) minus (m * 10 + digitValue b) (suc places) o (fraction-more r (95 ∷ []) m places b w underscore d))
     (at-bad (((sg ++ r) ++ (95 ∷ [])) ++ (b ∷ [])))
 step-read s x b (at-prefix c base l) =
     digit-else base b refl (λ d. at-based c base (b ∷ []) (digitValue b) l (digit-alone base b d)) (at-bad (48 ∷ c ∷ b ∷ []))
 step-read s x b (at-based c base r n l d) =
-    digit-else base b refl (λ e. at-based c base (r ++ (b ∷ [])) (n * base + digitValue b) l (digit-more base r n b d e))
+    digit-else base b refl (λ e. at-based c base (r ++ (b ∷ [])) (n * base + digitValue b) l (digit-more base r [] n b d no-underscore e))
     (either (is "_" b) (λ t. from-byte (λ (y : ℕ). Read (48 ∷ c ∷ (r ++ (y ∷ []))) (BasedGap base n)) 95 b t (at-based-gap c base r n l d))
     (at-bad (48 ∷ c ∷ (r ++ (b ∷ [])))))
 step-read s x b (at-based-gap c base r n l d) =
     digit-else base b (behind-gap (48 ∷ c ∷ []) r 95 b)
-    (λ e. at-based c base (r ++ (95 ∷ b ∷ [])) (n * base + digitValue b) l (underscore-more base r n b d e))
+    (λ e. at-based c base (r ++ (95 ∷ b ∷ [])) (n * base + digitValue b) l (digit-more base r (95 ∷ []) n b d underscore e))
     (at-bad (48 ∷ c ∷ ((r ++ (95 ∷ [])) ++ (b ∷ []))))
 step-read s x b (at-mark front minus m places u) =
     either (isSign b) (λ t. at-exponent-sign front minus m places b u (is-true (isSign b) t))
@@ -170,7 +165,7 @@ step-read s x b (at-exponent-sign front minus m places c u e) =
     (at-bad ((front ++ (c ∷ [])) ++ (b ∷ [])))
 step-read s x b (at-exponent front sg r minus m places below n u o d) =
     digit-else 10 b (behind-three front sg r (b ∷ []))
-    (λ e. at-exponent front sg (r ++ (b ∷ [])) minus m places below (n * 10 + digitValue b) u o (digit-more 10 r n b d e))
+    (λ e. at-exponent front sg (r ++ (b ∷ [])) minus m places below (n * 10 + digitValue b) u o (digit-more 10 r [] n b d no-underscore e))
     (either (is "_" b)
     (λ t.
     from-byte (λ (y : ℕ). Read ((front ++ (sg ++ r)) ++ (y ∷ [])) (ExpGap minus m places below n)) 95 b t
@@ -178,7 +173,7 @@ step-read s x b (at-exponent front sg r minus m places below n u o d) =
     (at-bad ((front ++ (sg ++ r)) ++ (b ∷ []))))
 step-read s x b (at-exponent-gap front sg r minus m places below n u o d) =
     digit-else 10 b (behind-three front sg r (95 ∷ b ∷ []) ∙ sym (append-assoc (front ++ (sg ++ r)) (95 ∷ []) (b ∷ [])))
-    (λ e. at-exponent front sg (r ++ (95 ∷ b ∷ [])) minus m places below (n * 10 + digitValue b) u o (underscore-more 10 r n b d e))
+    (λ e. at-exponent front sg (r ++ (95 ∷ b ∷ [])) minus m places below (n * 10 + digitValue b) u o (digit-more 10 r (95 ∷ []) n b d underscore e))
     (at-bad (((front ++ (sg ++ r)) ++ (95 ∷ [])) ++ (b ∷ [])))
 step-read s x b (at-bad t) = at-bad (t ++ (b ∷ []))
 

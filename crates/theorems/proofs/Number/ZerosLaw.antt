@@ -8,7 +8,7 @@ use mathlib.Core.Bool.{true}
 use mathlib.Core.List.{List, [], _∷_, _++_}
 use lib.ListN.{replicate}
 use Rattle.text.specs.Bytes.{isDigitIn, digitValue}
-use Rattle.theorems.specs.Number.{Followed, by-none, by-digit, by-underscore, Digits, digits, LeadingZeros}
+use Rattle.theorems.specs.Number.{no-underscore, Followed, by-none, by-digit, Digits, digits, LeadingZeros}
 use Rattle.theorems.proofs.Number.MeantLaw.{exponent-meant}
 
 -- a zero before a first digit and those that follow it
@@ -16,9 +16,8 @@ zero-more : (b : ℕ) → isDigitIn 10 b ≡ true → (s : List ℕ) (n count : 
     → Followed 10 (code "0" ∷ []) 0 (code "0" ∷ s) n (suc count)
 zero-more b e s n count by-none =
     let z : 0 * 10 + digitValue b ≡ digitValue b = omega arith in
-    subst (λ (x : ℕ). Followed 10 (48 ∷ []) 0 (48 ∷ b ∷ []) x 1) z (by-digit (48 ∷ []) 0 0 b by-none e)
-zero-more b e s n count (by-digit t m k c d f) = by-digit (48 ∷ t) m (suc k) c (zero-more b e t m k d) f
-zero-more b e s n count (by-underscore t m k c d f) = by-underscore (48 ∷ t) m (suc k) c (zero-more b e t m k d) f
+    subst (λ (x : ℕ). Followed 10 (48 ∷ []) 0 (48 ∷ b ∷ []) x 1) z (by-digit (48 ∷ []) [] 0 0 b by-none no-underscore e)
+zero-more b e s n count (by-digit t gap m k c d o f) = by-digit (48 ∷ t) gap m (suc k) c (zero-more b e t m k d) o f
 
 zeros-more : (count : ℕ) (s : List ℕ) (n : ℕ) → Digits 10 s n → Digits 10 (replicate count (code "0") ++ s) n
 unfolding digitValue
