@@ -46,8 +46,10 @@ pub(crate) fn number(run: &str) -> Result<Number, u32> {
     if fraction.is_some_and(|digits| !grouped(digits, 10)) {
         return Err(MALFORMED);
     }
+    // Document 02's request 02, over document 01's "written as a decimal
+    // integer".
     let exponent = match exponent {
-        Some(written) => Some(sign_and_digits(written).ok_or(MALFORMED)?),
+        Some(written) => Some(signed_digits(written).ok_or(MALFORMED)?),
         None => None,
     };
     if fraction.is_none() && exponent.is_none() {
@@ -62,8 +64,6 @@ pub(crate) fn number(run: &str) -> Result<Number, u32> {
         Some((false, digits)) => amount(0, digits, 10) as i128,
         None => 0,
     };
-    // No overflow, and no exponent that is capped comes into the range: a run
-    // has at most 65,536 bytes, and the cap is 2^64.
     let p = exponent - fraction_digits;
     if m > MOST || !(-400..=400).contains(&p) {
         return Err(TOO_WIDE);
@@ -99,16 +99,13 @@ fn integer(minus: bool, amount: u128) -> Result<Number, u32> {
 /// followed by more, a single `_` allowed between two digits." Gives the minus
 /// and the digits.
 fn decimal_integer(written: &str) -> Option<(bool, &str)> {
-    let (minus, digits) = sign_and_digits(written)?;
-    let leads_well = digits.len() == 1 || !digits.starts_with('0');
-    leads_well.then_some((minus, digits))
+    signed_digits(written).filter(|(_, digits)| digits.len() == 1 || !digits.starts_with('0'))
 }
 
-/// An exponent, by document 02's request 02: "an optional sign and one or more
-/// digits, with a single underscore allowed between digits, and leading zeros
-/// allowed." A decimal integer is such too, but for its leading zeros, which
-/// [`decimal_integer`] looks at. Gives the minus and the digits.
-fn sign_and_digits(written: &str) -> Option<(bool, &str)> {
+/// "From now an exponent is an optional sign and one or more digits, with a
+/// single underscore allowed between digits, and leading zeros allowed." Gives
+/// the minus and the digits.
+fn signed_digits(written: &str) -> Option<(bool, &str)> {
     let (minus, digits) = match written.strip_prefix('-') {
         Some(digits) => (true, digits),
         None => (false, written.strip_prefix('+').unwrap_or(written)),
@@ -125,8 +122,6 @@ fn grouped(digits: &str, radix: u32) -> bool {
 
 /// Goes on from `so_far` with these digits, `_` passed over, stopping at
 /// [`CAP`]. A value that reached it stays there: it is at least twice [`MOST`].
-/// Zeros in front leave it 0, so however many there are, none of them makes it
-/// too wide.
 fn amount(so_far: u128, digits: &str, radix: u32) -> u128 {
     digits
         .bytes()
