@@ -20,7 +20,7 @@ item-fault sw b s =
       of-mark = λ y. tt;
       of-word = tt;
       of-string = λ isText body head k m c q h e. tt;
-      of-integer = λ z. tt;
+      of-integer = λ z e. tt;
       of-decimal = λ minus m p e. tt;
       of-fault = λ n h. h;
     })

@@ -78,7 +78,7 @@ solid sw b s h =
       of-mark = λ y. goes-class b h y;
       of-word = tt;
       of-string = λ isText body head k m c q g e. string-solid isText c;
-      of-integer = λ z. tt;
+      of-integer = λ z e. tt;
       of-decimal = λ minus m p e. tt;
       of-fault = λ n g. tt;
     })

@@ -72,7 +72,7 @@ pub record Cases (sw : Switches) (b : ℕ) (s : List ℕ) (P : Item → Type 0) 
   pub of-word : P (token (word (b ∷ take (front isWordByte s) s)) (front isWordByte s))
   pub of-string : (isText : Bool) (body : Body) (head k m : ℕ) (c : List ℕ) → closing (hasEscapes body) k (drop head s) ≡ C.Closed m
       → head + m ≤ length s → contentOf sw isText body (take (m - suc k) (drop head s)) ≡ some c → P (token (stringForm isText c) (head + m))
-  pub of-integer : (z : ℤ) → P (token (integer z) (front isNumberByte s))
+  pub of-integer : (z : ℤ) → number (b ∷ take (front isNumberByte s) s) ≡ N.Integer z → P (token (integer z) (front isNumberByte s))
   pub of-decimal : (minus : Bool) (m : ℕ) (p : ℤ) → number (b ∷ take (front isNumberByte s) s) ≡ N.Decimal minus m p
       → P (token (decimal minus m p) (front isNumberByte s))
   pub of-fault : (n : ℕ) → OwnFault n → P (fault n)
@@ -126,7 +126,7 @@ module _ (sw : Switches) (b : ℕ) (s : List ℕ) (P : Item → Type 0) (X : Cas
 
   meant-case : (m : Meaning) → number (b ∷ take (front isNumberByte s) s) ≡ m → P (meantItem (front isNumberByte s) m)
   unfolding meantItem
-  meant-case (N.Integer z) e = X .of-integer z
+  meant-case (N.Integer z) e = X .of-integer z e
   meant-case (N.Decimal minus m p) e = X .of-decimal minus m p e
   meant-case N.Malformed e = malformed
   meant-case N.TooWide e = X .of-fault 5 (omega arith, omega arith)

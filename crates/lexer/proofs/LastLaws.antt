@@ -153,7 +153,7 @@ low-case sw b s low =
       of-mark = λ y. low;
       of-word = run-low isWordByte word-byte b s low;
       of-string = λ isText body head k m c q h e. string-low body b s head k m q;
-      of-integer = λ z. run-low isNumberByte number-byte b s low;
+      of-integer = λ z e. run-low isNumberByte number-byte b s low;
       of-decimal = λ minus m p e. run-low isNumberByte number-byte b s low;
       of-fault = λ n h. tt;
     })

@@ -29,7 +29,7 @@ item-ends sw b s =
       of-mark = λ y. zero-le;
       of-word = front-le isWordByte s;
       of-string = λ isText body head k m c q h e. h;
-      of-integer = λ z. front-le isNumberByte s;
+      of-integer = λ z e. front-le isNumberByte s;
       of-decimal = λ minus m p e. front-le isNumberByte s;
       of-fault = λ n h. tt;
     })

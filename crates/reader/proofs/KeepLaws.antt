@@ -1,4 +1,4 @@
--- What the values of tokens keep to: a decimal to its range, a word to its bytes, a string's content to its body's length.
+-- What the values of tokens keep to: a number to its range, a word to its bytes, a string's content to its body's length.
 -- Assumes nothing.
 use mathlib.Core.Path.{_≡_, refl, subst}
 use Prim.Native.Nat.{ℕ, zero, suc, _+_, _-_, _≤_, zero-le, suc-le-suc}
@@ -67,17 +67,29 @@ unfolding contentOf
 content-short sw isText body s =
     cond-both (Short (length s)) isText (λ _. only-short (length s) (content sw body s) (body-short sw body s)) (λ _. body-short sw body s)
 
--- ---- a decimal's range
+-- ---- a number's range
+
+-- "Range of a signed 64-bit integer"
+unfoldable pub IntegerFits : ℤ → Type 0
+IntegerFits (pos n) = n ≤ most
+IntegerFits (negsuc n) = n ≤ most
 
 unfoldable Ranged : Meaning → Type 0
-Ranged (N.Integer z) = Unit {0}
+Ranged (N.Integer z) = IntegerFits z
 Ranged (N.Decimal minus m p) = DecimalFits m p
 Ranged N.Malformed = Unit {0}
 Ranged N.TooWide = Unit {0}
 
+signed-fits : (minus : Bool) (m : ℕ) → m ≤ cond minus (suc most) most → IntegerFits (signedBy minus m)
+unfolding IntegerFits
+signed-fits true zero h = omega arith
+signed-fits true (suc m) h = omega arith
+signed-fits false m h = h
+
 integer-ranged : (minus : Bool) (m : ℕ) → Ranged (asInteger minus m)
 unfolding Ranged asInteger
-integer-ranged minus m = cond-both Ranged (leb m (cond minus (suc most) most)) (λ _. tt) (λ _. tt)
+integer-ranged minus m =
+    cond-both Ranged (leb m (cond minus (suc most) most)) (λ t. signed-fits minus m (leb→le m (cond minus (suc most) most) t)) (λ _. tt)
 
 decimal-ranged : (minus : Bool) (m : ℕ) (p : ℤ) → Ranged (asDecimal minus m p)
 unfolding Ranged asDecimal
@@ -118,7 +130,7 @@ Keeps b s more (L.mark x) = Unit {0}
 Keeps b s more (L.word w) = w ≡ b ∷ take more s
 Keeps b s more (L.text c) = length c ≤ length s
 Keeps b s more (L.bytes c) = length c ≤ length s
-Keeps b s more (L.integer z) = Unit {0}
+Keeps b s more (L.integer z) = IntegerFits z
 Keeps b s more (L.decimal minus m p) = DecimalFits m p
 
 unfoldable pub ItemKeeps : (b : ℕ) (s : List ℕ) → Item → Type 0
@@ -149,7 +161,7 @@ item-keeps sw b s =
           let t = take-le (m - suc k) (drop head s) in
           let d = length-drop head s in
           string-keeps b s isText c (head + m) (omega arith);
-      of-integer = λ z. tt;
+      of-integer = λ z e. subst Ranged e (meaning-ranged (feed numberStep Start (b ∷ take (front isNumberByte s) s)));
       of-decimal = λ minus m p e. subst Ranged e (meaning-ranged (feed numberStep Start (b ∷ take (front isNumberByte s) s)));
       of-fault = λ n h. tt;
     })

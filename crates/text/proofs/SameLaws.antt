@@ -4,13 +4,14 @@ use mathlib.Core.Path.{_≡_, refl, sym, ap, _∙_}
 use Prim.Native.Nat.{ℕ, zero, suc, _+_, _≤_, _<_}
 use native.Mathlib.Numerals.{add-one}
 use native.Mathlib.Omega.{arith}
-use mathlib.Core.Bool.{Bool, true, false, _&&_}
+use mathlib.Core.Bool.{Bool, true, false, _&&_, false≢true}
 use mathlib.Core.List.{List, [], _∷_}
 use lib.Dec.{eqb}
 use lib.ListN.{length, drop, getD, drop-of-length-le}
 use lib.Seq.{drop-cons}
-use borrow.Author.Tests.{eq-eqb, ne-eqb}
+use borrow.Author.Tests.{eq-eqb, ne-eqb, eqb-true}
 use Rattle.text.specs.Bytes.{sameBytes}
+use Rattle.text.proofs.Choice.{and-left, and-right}
 
 both-false : (t : Bool) → false ≡ (t && false)
 both-false true = refl
@@ -31,10 +32,21 @@ differ-at (x ∷ a) [] i n = refl
 differ-at (x ∷ a) (y ∷ b) zero n = rw (ne-eqb x y n)
 differ-at (x ∷ a) (y ∷ b) (suc i) n = rw (← differ-at a b i n) (both-false (eqb x y))
 
-same-refl : (a : List ℕ) → true ≡ sameBytes a a
+pub same-refl : (a : List ℕ) → true ≡ sameBytes a a
 unfolding sameBytes
 same-refl [] = refl
 same-refl (x ∷ a) = rw (eq-eqb x x refl, ← same-refl a)
+
+-- the same bytes are one list
+pub same-is : (a b : List ℕ) → sameBytes a b ≡ true → a ≡ b
+unfolding sameBytes
+same-is [] [] e = refl
+same-is [] (y ∷ b) e = absurd (false≢true e)
+same-is (x ∷ a) [] e = absurd (false≢true e)
+same-is (x ∷ a) (y ∷ b) e =
+    let q = eqb-true x y (and-left (eqb x y) (sameBytes a b) e) in
+    let r = same-is a b (and-right (eqb x y) (sameBytes a b) e) in
+    λ i. q i ∷ r i
 
 pub same-all : (a b : List ℕ) (i : ℕ) → i ≡ 0 → drop i a ≡ drop i b → true ≡ sameBytes a b
 same-all a b i z e = same-refl a ∙ ap (sameBytes a) (ap (λ (n : ℕ). drop n a) (sym z) ∙ e ∙ ap (λ (n : ℕ). drop n b) z)
