@@ -14,7 +14,9 @@ use Rattle.reader.specs.Content.{Answer, answered, contentNumber}
 use Rattle.reader.specs.declared.content.Given.{Given}
 use Rattle.reader.specs.declared.content.Given.the-variants as G
 use Rattle.reader.proofs.PlaceBound.{PlaceWithin, place-law}
-use Rattle.duper.specs.Numbers.{readNumber}
+use Rattle.path.specs.declared.find.Found.{Found}
+use Rattle.path.specs.declared.find.Found.the-variants as F
+use Rattle.duper.specs.Numbers.{readNumber, foundNumber}
 
 -- the number of the code's answer to a reading, and to a content call
 readPacked : Reading → ℕ
@@ -64,3 +66,12 @@ place-packed (refused number place) h = h
 pub place-small : (sw : Switches) (words : ℕ) (s : List ℕ) (number place : ℕ) → R.Refused number place ≡ answerOf (reading sw words s) → place ≤ 65536
 unfolding placeOf
 place-small sw words s number place e = subst (λ r. placeOf r ≤ 65536) (sym e) (place-packed (reading sw words s) (place-law sw words s))
+
+-- the number of the code's answer to a path
+pub node-number : (node : ℕ) (a : Found) → F.At node ≡ a → node ≡ foundNumber a
+unfolding foundNumber
+node-number node a e = ap foundNumber e
+
+pub step-number : (number place : ℕ) (a : Found) → F.Refused number place ≡ a → number * 4294967296 + place ≡ foundNumber a
+unfolding foundNumber
+step-number number place a e = ap foundNumber e

@@ -1,5 +1,5 @@
--- Answers as numbers: a reading's, and those of a correction or an undo. The content call's own is `contentNumber` in the reader's
--- specs/Content.antt.
+-- Answers as numbers: a reading's, those of a correction or an undo, and that of a path. The content call's own is `contentNumber` in the
+-- reader's specs/Content.antt.
 -- Assumes nothing.
 use Prim.Native.Nat.{ℕ, _+_, _*_}
 use mathlib.Core.Path.{_≡_}
@@ -9,6 +9,8 @@ use lib.Dec.{eqb}
 use Rattle.reader.specs.Tree.{size}
 use Rattle.reader.specs.Syntax.{Outcome, taken, refused}
 use Rattle.editor.specs.Edit.{Answer, Result}
+use Rattle.path.specs.declared.find.Found.{Found}
+use Rattle.path.specs.declared.find.Found.the-variants as F
 
 -- "a C function answering refusal times 4294967296 plus the bytes written": the papers say this of the content call. Reading has a node
 -- count for the bytes written and, when refused, a place ("Numbers of refusal"), and is packed the same way.
@@ -31,3 +33,8 @@ pub record Crosses (result : Result) (number : ℕ) (text journal table answer :
   pub text-is : text ≡ result .lent .text
   pub journal-is : journal ≡ result .lent .journal
   pub table-is : table ≡ result .table
+
+-- what a path leads to: "the node's number, or 23 and the number of the first step", packed as a reading's refusal and its place are
+unfoldable pub foundNumber : Found → ℕ
+foundNumber (F.At node) = node
+foundNumber (F.Refused number place) = number * 4294967296 + place

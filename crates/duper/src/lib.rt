@@ -7,10 +7,12 @@ ghost use Rattle.text.specs.Utf8.{utf8, wholeFront, plainEights};
 ghost use Rattle.reader.specs.Reading.{reading, tableOf};
 ghost use Rattle.reader.specs.Content.{contentCall, written, contentNumber};
 ghost use Rattle.editor.specs.Edit.{lentOf, correct, undo};
-ghost use Rattle.duper.specs.Numbers.{readNumber, Crosses};
+ghost use Rattle.path.specs.Path.{found};
+ghost use Rattle.duper.specs.Numbers.{readNumber, foundNumber, Crosses};
 ghost use Rattle.duper.specs.Internal.{verdictNumber, PlaceFits, wordsOf};
 use editor::edit::Change;
 use editor::edit::Verdict;
+use path::find::Found;
 use reader::content::Given;
 use reader::read::Reading;
 use text::utf8::check_utf8;
@@ -95,4 +97,16 @@ pub extern "C" fn duper_undo(
 {
     let change = editor::edit::undo(text, used, journal, kept, table);
     tell(change, answer)
+}
+
+// Reads a text of the present edition into the table, and answers the number of the node that the path leads to; or else the refusal times
+// 4294967296 plus its place: that of the reading, or 23 and the number of the first step, from 0, that has no child to go to.
+#[no_mangle]
+pub extern "C" fn duper_find(text: &[u8], table: &mut [u32], path: &[u8]) -> u64
+    ensures { λ r. ⌜ (r ≡ foundNumber (found presentEdition (now (text .entry)) (now (path .entry)) (reading presentEdition (length (now (table .entry))) (now (text .entry))))) × (now (table .exit) ≡ tableOf (length (now (table .entry))) (reading presentEdition (length (now (table .entry))) (now (text .entry)))) ⌝ }
+{
+    match path::find::find(text, table, path) {
+        Found::At(node) => node as u64,
+        Found::Refused(number, place) => number as u64 * 4294967296 + place as u64,
+    }
 }

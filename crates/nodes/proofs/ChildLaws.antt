@@ -1,0 +1,148 @@
+-- The walks over a node's children, by key and by index, way out by way out.
+-- Assumes nothing.
+use mathlib.Core.Path.{_≡_, refl, sym, ap, _∙_, subst}
+use Prim.Native.Nat.{ℕ, zero, suc, _+_, _-_, _*_, _≤_, _<_}
+use native.Mathlib.Numerals.{add-one}
+use native.Mathlib.Omega.{arith}
+use mathlib.Core.Bool.{Bool, true, false, cond}
+use mathlib.Core.Option.{Option, none, some}
+use mathlib.Core.List.{List}
+use lib.ListN.{length}
+use Rattle.text.specs.declared.switches.Switches.{Switches}
+use Rattle.literals.specs.Content.{sameContent}
+use Rattle.reader.specs.Tree.{Span, Tree, nil, headOf, size, nodeWords}
+use Rattle.reader.specs.Reading.{wordOf}
+use Rattle.nodes.specs.Nodes.{childrenOf, Numbered, numbered, firstThat, nth, says, contentOfKey, hasKey, member, element}
+use Rattle.nodes.specs.Answers.{childTold}
+use Rattle.nodes.specs.Stands.{Node, Stands, KindIs, MemberIs, ElementIs}
+use Rattle.nodes.specs.declared.children.Child.the-variants as C
+use Rattle.nodes.proofs.WordLaws.{firstOf, secondOf, word-in, word-key, word-kind}
+use Rattle.nodes.proofs.WalkLaws.{Walk, Here, walk-start, walk-here, walk-done, walk-next}
+use Rattle.nodes.proofs.SaysLaws.{nothing-said}
+
+-- what a node's words 4 and 5 say of its key
+pub key-said : (sw : Switches) (text key table : List ℕ) (n : ℕ) (t : Tree) → Node table n t → says sw text (wordOf table n 4) (wordOf table n 5) key ≡ hasKey sw text key t
+unfolding hasKey contentOfKey says sameContent firstOf secondOf
+key-said sw text key table n t N =
+    let w = word-key table n t N in
+    (λ i. says sw text (w .0 i) (w .1 i) key) ∙ by (headOf t .key)
+  where
+    by : (o : Option Span) → says sw text (firstOf o) (secondOf o) key ≡ sameContent (contentOfKey sw text o) (some key)
+    by none = nothing-said sw text key
+    by (some s) = refl
+
+-- the words of a node lie in the table
+pub stands-word : (table : List ℕ) (n : ℕ) → Stands table n → (w : ℕ) → w < nodeWords → nodeWords * n + w < length table
+stands-word table n S w h = word-in table n (S .value) (S .node) w h
+
+pub kind-told : (table : List ℕ) (n r : ℕ) → r ≡ wordOf table n 0 → KindIs table n r
+kind-told table n r e = record { is = λ t N. e ∙ word-kind table n t N }
+
+-- ---- what an answer tells
+
+pub told-at : (o : Option Numbered) (m : ℕ) → childTold o ≡ C.At m → (v : Tree) × (o ≡ some (numbered m v))
+unfolding childTold
+told-at none m e = let v : _≡_ {A = ℕ} 0 1 = cc in absurd (omega arith)
+told-at (some c) m e = (c .value, let q : c .number ≡ m = cc in ap (λ (k : ℕ). some (numbered k (c .value))) q)
+
+pub told-nothing : (o : Option Numbered) → childTold o ≡ C.Nothing → o ≡ none
+unfolding childTold
+told-nothing none e = refl
+told-nothing (some c) e = cc
+
+-- ---- by key
+
+-- the loop has come to x, of whichever value stands there
+pub record MemberWalk (sw : Switches) (text key table : List ℕ) (n x : ℕ) : Type 0 where
+  pub of : (t : Tree) → Node table n t → Walk (Option Numbered) (firstThat (hasKey sw text key)) (member sw text key n t) table n x
+
+module _ (sw : Switches) (text key table : List ℕ) (n : ℕ) where
+  pub member-start : MemberWalk sw text key table n (n + 1)
+  unfolding member
+  member-start =
+      record {
+        of =
+            λ t N. walk-start (Option Numbered) (firstThat (hasKey sw text key)) (member sw text key n t) table n t N
+            (ap (λ (m : ℕ). firstThat (hasKey sw text key) m (childrenOf t)) (add-one n));
+      }
+
+  -- a child at x
+  abbrev pub MemberHere : Tree → (x : ℕ) → Type 0
+  MemberHere t x = Here (Option Numbered) (firstThat (hasKey sw text key)) (member sw text key n t) table n x
+
+  pub member-here : (x end : ℕ) → MemberWalk sw text key table n x → end ≡ wordOf table n 8 → x < end → (t : Tree) → Node table n t → MemberHere t x
+  member-here x end W e h t N = walk-here (Option Numbered) (firstThat (hasKey sw text key)) (member sw text key n t) table n x (W .of t N) (omega arith)
+
+  pub member-hit : (x end a e : ℕ) (r : Bool) → MemberWalk sw text key table n x → end ≡ wordOf table n 8 → x < end → a ≡ wordOf table x 4 → e ≡ wordOf table x 5
+      → r ≡ says sw text a e key → r ≡ true → MemberIs sw text key table n (C.At x)
+  unfolding firstThat childTold
+  member-hit x end a e r W g h p q s y = record { is = λ t N. at t (member-here x end W g h t N) }
+    where
+      at : (t : Tree) → MemberHere t x → C.At x ≡ childTold (member sw text key n t)
+      at t H =
+          let k : hasKey sw text key (H .value) ≡ true = sym (key-said sw text key table x (H .value) (H .node)) ∙ (λ i. says sw text (sym p i) (sym q i) key) ∙ sym s ∙ y in
+          sym (ap (λ (b : Bool). childTold (cond b (some (numbered x (H .value))) (firstThat (hasKey sw text key) (x + size (H .value)) (H .later)))) k)
+          ∙ ap childTold (H .same)
+
+  pub member-on : (x end a e y : ℕ) (r : Bool) → MemberWalk sw text key table n x → end ≡ wordOf table n 8 → x < end → a ≡ wordOf table x 4 → e ≡ wordOf table x 5
+      → r ≡ says sw text a e key → r ≡ false → y ≡ wordOf table x 8 → MemberWalk sw text key table n y
+  unfolding firstThat
+  member-on x end a e y r W z h p q s f g = record { of = λ t N. on t (member-here x end W z h t N) }
+    where
+      on : (t : Tree) → MemberHere t x → Walk (Option Numbered) (firstThat (hasKey sw text key)) (member sw text key n t) table n y
+      on t H =
+          let k : hasKey sw text key (H .value) ≡ false = sym (key-said sw text key table x (H .value) (H .node)) ∙ (λ i. says sw text (sym p i) (sym q i) key) ∙ sym s ∙ f in
+          walk-next (Option Numbered) (firstThat (hasKey sw text key)) (firstThat (hasKey sw text key)) (member sw text key n t) table n x y H g
+          (sym (ap (λ (b : Bool). cond b (some (numbered x (H .value))) (firstThat (hasKey sw text key) (x + size (H .value)) (H .later))) k))
+
+  pub member-end : (x end : ℕ) → MemberWalk sw text key table n x → end ≡ wordOf table n 8 → end ≤ x → MemberIs sw text key table n C.Nothing
+  unfolding firstThat childTold
+  member-end x end W e h =
+      record { is = λ t N. ap childTold (walk-done (Option Numbered) (firstThat (hasKey sw text key)) (member sw text key n t) table n x (W .of t N) (omega arith)) }
+
+-- ---- by index
+
+-- the loop has come to x, with `left` children to pass over
+pub record ElementWalk (i : ℕ) (table : List ℕ) (n left x : ℕ) : Type 0 where
+  pub of : (t : Tree) → Node table n t → Walk (Option Numbered) (nth left) (element i n t) table n x
+
+module _ (i : ℕ) (table : List ℕ) (n : ℕ) where
+  pub element-start : ElementWalk i table n i (n + 1)
+  unfolding element
+  element-start =
+      record { of = λ t N. walk-start (Option Numbered) (nth i) (element i n t) table n t N (ap (λ (m : ℕ). nth i m (childrenOf t)) (add-one n)) }
+
+  abbrev pub ElementHere : Tree → (left x : ℕ) → Type 0
+  ElementHere t left x = Here (Option Numbered) (nth left) (element i n t) table n x
+
+  pub element-here : (left x end : ℕ) → ElementWalk i table n left x → end ≡ wordOf table n 8 → x < end → (t : Tree) → Node table n t → ElementHere t left x
+  element-here left x end W e h t N = walk-here (Option Numbered) (nth left) (element i n t) table n x (W .of t N) (omega arith)
+
+  hit-by : (t : Tree) (left x : ℕ) → ElementHere t left x → left ≡ 0 → C.At x ≡ childTold (element i n t)
+  unfolding nth childTold
+  hit-by t zero x H z = ap childTold (H .same)
+  hit-by t (suc left) x H z = absurd (omega arith)
+
+  pub element-hit : (left x end : ℕ) → ElementWalk i table n left x → end ≡ wordOf table n 8 → x < end → left ≡ 0 → ElementIs i table n (C.At x)
+  element-hit left x end W e h z = record { is = λ t N. hit-by t left x (element-here left x end W e h t N) z }
+
+  on-by : (t : Tree) (left x y : ℕ) → ElementHere t left x → (left ≡ 0 → ⊥) → y ≡ wordOf table x 8 → Walk (Option Numbered) (nth (left - 1)) (element i n t) table n y
+  unfolding nth
+  on-by t zero x y H z g = absurd (z refl)
+  on-by t (suc left) x y H z g =
+      let q : left ≡ suc left - 1 = omega arith in
+      subst (λ (k : ℕ). Walk (Option Numbered) (nth k) (element i n t) table n y) q
+      (walk-next (Option Numbered) (nth (suc left)) (nth left) (element i n t) table n x y H g refl)
+
+  pub element-on : (left x end y : ℕ) → ElementWalk i table n left x → end ≡ wordOf table n 8 → x < end → (left ≡ 0 → ⊥) → y ≡ wordOf table x 8
+      → ElementWalk i table n (left - 1) y
+  element-on left x end y W e h z g = record { of = λ t N. on-by t left x y (element-here left x end W e h t N) z g }
+
+  none-by : (t : Tree) (left x : ℕ) → nth left x nil ≡ element i n t → C.Nothing ≡ childTold (element i n t)
+  unfolding nth childTold
+  none-by t zero x d = ap childTold d
+  none-by t (suc left) x d = ap childTold d
+
+  pub element-end : (left x end : ℕ) → ElementWalk i table n left x → end ≡ wordOf table n 8 → end ≤ x → ElementIs i table n C.Nothing
+  element-end left x end W e h =
+      record { is = λ t N. none-by t left x (walk-done (Option Numbered) (nth left) (element i n t) table n x (W .of t N) (omega arith)) }

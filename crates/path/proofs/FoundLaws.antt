@@ -1,0 +1,88 @@
+-- Where a path leads: to a node of the text, or to a step whose number is below the count of nodes.
+-- Assumes nothing.
+use mathlib.Core.Path.{_≡_, refl, sym, ap, _∙_, subst}
+use Prim.Native.Nat.{ℕ, zero, suc, _+_, _≤_, _<_}
+use native.Mathlib.Omega.{arith}
+use mathlib.Core.Option.{Option, none, some}
+use mathlib.Core.List.{List, [], _∷_}
+use lib.ListN.{length}
+use Rattle.text.specs.declared.switches.Switches.{Switches}
+use Rattle.reader.specs.Tree.{Tree, size}
+use Rattle.reader.specs.Syntax.{Outcome, taken, refused}
+use Rattle.reader.specs.Reading.{reading, tableOf, nodeCount}
+use Rattle.reader.proofs.PlaceBound.{PlaceWithin, place-law}
+use Rattle.reader.proofs.SizeLaws.{count-law}
+use Rattle.nodes.specs.Nodes.{nodeAt, Numbered}
+use Rattle.nodes.specs.Stands.{Stands}
+use Rattle.nodes.proofs.WordLaws.{size-pos}
+use Rattle.nodes.proofs.NodeLaws.{node-fits, node-stands, child-node, node-root}
+use Rattle.path.specs.Path.{steps, child, Way, at, missing, onward, follow, told, found}
+use Rattle.path.specs.declared.find.Found.{Found}
+use Rattle.path.specs.declared.find.Found.the-variants as F
+use Rattle.path.proofs.FollowLaws.{child-among}
+
+-- of a tree with so many nodes: a node's number, or that of a step, with `left` steps from the step k on
+unfoldable pub Leads : (nodes k left : ℕ) → Way → Type 0
+Leads nodes k left (at n) = n < nodes
+Leads nodes k left (missing j) = (j < nodes) × (j < k + left)
+
+more-left : (nodes k left : ℕ) (w : Way) → Leads nodes (suc k) left w → Leads nodes k (suc left) w
+unfolding Leads
+more-left nodes k left (at n) h = h
+more-left nodes k left (missing j) h = (h .0, let l = h .1 in omega arith)
+
+module _ (sw : Switches) (text : List ℕ) (tree : Tree) where
+  -- a child has a greater number than its parent, so at the step k the number is at least k
+  follow-leads : (k n : ℕ) (t : Tree) (ss : List (List ℕ)) → nodeAt tree n ≡ some t → k ≤ n → Leads (size tree) k (length ss) (follow sw text k n t ss)
+  unfolding follow onward Leads
+  follow-leads k n t [] e h = let f = node-fits t tree n e in let p = size-pos t in omega arith
+  follow-leads k n t (s ∷ ss) e h = by (child sw text n t s) refl (λ c. follow-leads (suc k) (c .number) (c .value) ss)
+    where
+      by : (o : Option Numbered) → child sw text n t s ≡ o
+          → ((c : Numbered) → nodeAt tree (c .number) ≡ some (c .value) → suc k ≤ c .number → Leads (size tree) (suc k) (length ss) (follow sw text (suc k) (c .number) (c .value) ss))
+          → Leads (size tree) k (suc (length ss)) (onward k o (λ c. follow sw text (suc k) (c .number) (c .value) ss))
+      by none q go = let f = node-fits t tree n e in let p = size-pos t in (omega arith, omega arith)
+      by (some c) q go = let A = child-among sw text s n t c q in let l = A .from in more-left (size tree) k (length ss) (follow sw text (suc k) (c .number) (c .value) ss) (go c (child-node tree n t c e A) (omega arith))
+
+  pub found-leads : (path : List ℕ) → Leads (size tree) 0 (length (steps path)) (follow sw text 0 0 tree (steps path))
+  found-leads path = follow-leads 0 0 tree (steps path) (node-root tree) (omega arith)
+
+-- ---- the call
+
+-- of a text with so many nodes: a node's number, or a place that can be packed with a refusal's number
+Fits : (nodes : ℕ) → Found → Type 0
+Fits nodes (F.At n) = n < nodes
+Fits nodes (F.Refused number place) = place ≤ 65536
+
+told-fits : (nodes left : ℕ) (w : Way) → nodes ≤ 4096 → Leads nodes 0 left w → Fits nodes (told w)
+unfolding told Leads Fits
+told-fits nodes left (at n) l h = h
+told-fits nodes left (missing j) l h = let b = h .0 in omega arith
+
+found-by : (sw : Switches) (text path : List ℕ) (o : Outcome) → nodeCount o ≤ 4096 → PlaceWithin 65536 o → Fits (nodeCount o) (found sw text path o)
+unfolding found nodeCount PlaceWithin Fits
+found-by sw text path (taken tree) l p =
+    told-fits (size tree) (length (steps path)) (follow sw text 0 0 tree (steps path)) l (found-leads sw text tree path)
+found-by sw text path (refused number place) l p = p
+
+module _ (sw : Switches) (words : ℕ) (text path : List ℕ) where
+  found-fits : Fits (nodeCount (reading sw words text)) (found sw text path (reading sw words text))
+  found-fits =
+      let c = count-law sw words text in
+      found-by sw text path (reading sw words text) (omega arith) (place-law sw words text)
+
+  -- what is found is a node of the text
+  pub found-node : (n : ℕ) → F.At n ≡ found sw text path (reading sw words text) → n < nodeCount (reading sw words text)
+  unfolding Fits
+  found-node n e = subst (Fits (nodeCount (reading sw words text))) (sym e) found-fits
+
+  -- and stands in its table
+  pub found-stands : (n : ℕ) → F.At n ≡ found sw text path (reading sw words text) → Stands (tableOf words (reading sw words text)) n
+  found-stands n e =
+      let r = node-stands words n (reading sw words text) (found-node n e) in
+      record { value = r .0; node = r .2 }
+
+  -- a refusal's place is at most 65536: a step's number is below the count of nodes
+  pub found-place : (number place : ℕ) → F.Refused number place ≡ found sw text path (reading sw words text) → place ≤ 65536
+  unfolding Fits
+  found-place number place e = subst (Fits (nodeCount (reading sw words text))) (sym e) found-fits
