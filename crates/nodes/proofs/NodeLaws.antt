@@ -211,14 +211,31 @@ child-node tree n t c e B =
 
 -- ---- a table that has been read
 
--- every number below the count is a node's, which stands in the table
+-- a node of what was read stands in the table
+pub node-table : (words n : ℕ) (o : Outcome) (t : Tree) → nodeOf o n ≡ some t → Node (tableOf words o) n t
+unfolding nodeOf
+node-table words n (taken tree) t e =
+    let q : 0 + n ≡ n = omega arith in
+    subst (λ (k : ℕ). Node (tableOf words (taken tree)) k t) q (node-below (tableOf words (taken tree)) t 0 tree (root-node words tree) n e)
+node-table words n (refused number place) t e = none-is e
+
+-- every number below the count is a node's
 pub node-stands : (words n : ℕ) (o : Outcome) → n < nodeCount o → (t : Tree) × (nodeOf o n ≡ some t) × Node (tableOf words o) n t
 unfolding nodeOf nodeCount
-node-stands words n (taken tree) h =
-    let r = node-some tree n h in
-    let q : 0 + n ≡ n = omega arith in
-    (r .0, r .1, subst (λ (k : ℕ). Node (tableOf words (taken tree)) k (r .0)) q (node-below (tableOf words (taken tree)) (r .0) 0 tree (root-node words tree) n (r .1)))
+node-stands words n (taken tree) h = let r = node-some tree n h in (r .0, r .1, node-table words n (taken tree) (r .0) (r .1))
 node-stands words n (refused number place) h = absurd (omega arith)
+
+-- and no other number is
+pub node-count : (n : ℕ) (o : Outcome) (t : Tree) → nodeOf o n ≡ some t → n < nodeCount o
+unfolding nodeOf nodeCount
+node-count n (taken tree) t e = let f = node-fits t tree n e in let p = size-pos t in omega arith
+node-count n (refused number place) t e = none-is e
+
+-- what has a node was taken
+pub node-taken : (n : ℕ) (o : Outcome) (t : Tree) → nodeOf o n ≡ some t → (tree : Tree) × (o ≡ taken tree) × (nodeAt tree n ≡ some t)
+unfolding nodeOf
+node-taken n (taken tree) t e = (tree, refl, e)
+node-taken n (refused number place) t e = none-is e
 
 -- a child of a value that stands in a table stands there too
 pub child-stands : (table : List ℕ) (n : ℕ) (t : Tree) (c : Numbered) → Node table n t → Among (suc n) (childrenOf t) c → Node table (c .number) (c .value)

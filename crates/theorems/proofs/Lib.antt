@@ -3,4 +3,5 @@ pub mod Utf8
 pub mod Number
 pub mod Insertion
 pub mod Nesting
+pub mod NodeLaws
 pub mod CallLaws

@@ -3,5 +3,6 @@ pub mod Utf8
 pub mod Number
 pub mod Insertion
 pub mod Nesting
+pub mod Nodes
 pub mod Calls
 pub mod Example
