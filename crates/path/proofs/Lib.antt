@@ -1,5 +1,4 @@
--- Laws of paths, and a few paths by computation.
+-- Laws of paths: their steps, what one step leads to, and where a path leads.
 pub mod StepLaws
 pub mod FollowLaws
-pub mod Cases
 pub mod FoundLaws

@@ -4,4 +4,5 @@ pub mod Number
 pub mod Insertion
 pub mod Nesting
 pub mod NodeLaws
+pub mod Path
 pub mod CallLaws

@@ -4,5 +4,6 @@ pub mod Number
 pub mod Insertion
 pub mod Nesting
 pub mod Nodes
+pub mod Path
 pub mod Calls
 pub mod Example
