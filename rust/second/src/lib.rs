@@ -21,7 +21,8 @@
 //! lent buffers, and [`book`], document 01's plain book, which has no buffers
 //! and works everything out anew from the corrections in force. [`insertion`]
 //! is document 02's rule on what comments may do to a table, and [`utf8`] its
-//! check that passes over eight plain bytes at a time.
+//! check that passes over eight plain bytes at a time. [`path`] finds a node by
+//! the keys and indexes that lead to it from the root.
 
 #![forbid(unsafe_code)]
 #![warn(missing_docs)]
@@ -31,6 +32,7 @@ mod change;
 pub mod insertion;
 mod nodes;
 mod numbers;
+pub mod path;
 mod strings;
 mod tokens;
 pub mod utf8;
@@ -51,12 +53,13 @@ pub const MAX_NODES: usize = 4_096;
 /// "Twelve 32-bit words a node"
 pub const ROW: usize = 12;
 
-/// A refusal: one of document 01's numbers, and its place.
+/// A refusal: one of document 01's numbers, or one that a request of document
+/// 02 adds, and its place.
 #[derive(Debug, Clone, Copy, PartialEq, Eq)]
 pub struct Refusal {
-    /// Document 01's number of refusal.
+    /// The paper's number of refusal.
     pub number: u32,
-    /// The place document 01 gives for it.
+    /// The place the paper gives for it; for 23 the number of a step.
     pub place: u64,
 }
 
@@ -65,7 +68,7 @@ impl Refusal {
         Refusal { number, place: place as u64 }
     }
 
-    /// The refusals from 11 on have the place 0.
+    /// Document 01's refusals from 11 on have the place 0.
     pub(crate) fn at_zero(number: u32) -> Self {
         Refusal { number, place: 0 }
     }
