@@ -70,7 +70,7 @@ module _ (sw : Switches) (text key table : List ℕ) (n : ℕ) where
   abbrev pub MemberHere : Tree → (x : ℕ) → Type 0
   MemberHere t x = Here (Option Numbered) (firstThat (hasKey sw text key)) (member sw text key n t) table n x
 
-  pub member-here : (x end : ℕ) → MemberWalk sw text key table n x → end ≡ wordOf table n 8 → x < end → (t : Tree) → Node table n t → MemberHere t x
+  member-here : (x end : ℕ) → MemberWalk sw text key table n x → end ≡ wordOf table n 8 → x < end → (t : Tree) → Node table n t → MemberHere t x
   member-here x end W e h t N = walk-here (Option Numbered) (firstThat (hasKey sw text key)) (member sw text key n t) table n x (W .of t N) (omega arith)
 
   pub member-hit : (x end a e : ℕ) (r : Bool) → MemberWalk sw text key table n x → end ≡ wordOf table n 8 → x < end → a ≡ wordOf table x 4 → e ≡ wordOf table x 5
@@ -115,7 +115,7 @@ module _ (i : ℕ) (table : List ℕ) (n : ℕ) where
   abbrev pub ElementHere : Tree → (left x : ℕ) → Type 0
   ElementHere t left x = Here (Option Numbered) (nth left) (element i n t) table n x
 
-  pub element-here : (left x end : ℕ) → ElementWalk i table n left x → end ≡ wordOf table n 8 → x < end → (t : Tree) → Node table n t → ElementHere t left x
+  element-here : (left x end : ℕ) → ElementWalk i table n left x → end ≡ wordOf table n 8 → x < end → (t : Tree) → Node table n t → ElementHere t left x
   element-here left x end W e h t N = walk-here (Option Numbered) (nth left) (element i n t) table n x (W .of t N) (omega arith)
 
   hit-by : (t : Tree) (left x : ℕ) → ElementHere t left x → left ≡ 0 → C.At x ≡ childTold (element i n t)

@@ -12,11 +12,11 @@ use lib.ListN.{length, take, drop}
 use lib.Seq.{take-all}
 use borrow.Rule.Slice.PartAt.{part-to-end}
 use native.Mathlib.Decide.{decLt}
-use borrow.Author.Tests.{lt-ltb, le-ltb, ltb-false}
+use borrow.Author.Tests.{ltb-false}
 use Rattle.text.specs.declared.switches.Switches.{Switches}
 use Rattle.text.specs.Bytes.{front}
-use Rattle.reader.specs.Tree as T
-use Rattle.reader.specs.Tree.{Scalar, Tree, leaf, branch, Forest, nil, cons, size, sizes, kindNumber, scalarNumber, nodeWords}
+use Rattle.lexer.proofs.ItemCases.{front-le}
+use Rattle.reader.specs.Tree.{Tree, leaf, branch, Forest, nil, cons, size, sizes, kindNumber, nodeWords}
 use Rattle.reader.specs.declared.tree.Kind.the-variants.{Object, Array, Tuple}
 use Rattle.reader.specs.Syntax.{Outcome, taken, refused}
 use Rattle.reader.specs.Reading.{wordOf, tableOf, answerOf}
@@ -29,13 +29,12 @@ use Rattle.nodes.specs.declared.children.Child.the-variants as C
 use Rattle.nodes.proofs.WordLaws.{size-pos, scalar-high, word-next}
 use Rattle.nodes.proofs.NodeLaws.{Among, first-among, nth-among, child-stands, root-node}
 use Rattle.nodes.proofs.ChildLaws.{told-at, told-nothing}
-use Rattle.path.specs.Path.{pieces, steps, index, indexed, child, Way, at, missing, onward, follow, told, found}
+use Rattle.path.specs.Path.{pieces, steps, index, indexed, child, at, onward, follow, told, found}
 use Rattle.path.specs.Internal.{isStepByte, below, indexTold, IndexedIs, ChildIs, FollowIs}
-use Rattle.path.specs.declared.steps.Index.{Index}
 use Rattle.path.specs.declared.steps.Index.the-variants as I
 use Rattle.path.specs.declared.find.Found.{Found}
 use Rattle.path.specs.declared.find.Found.the-variants as F
-use Rattle.path.proofs.StepLaws.{front-within, last-step, first-step}
+use Rattle.path.proofs.StepLaws.{last-step, first-step}
 
 -- ---- by index
 
@@ -223,7 +222,7 @@ module _ (sw : Switches) (text table path : List ℕ) (n k e : ℕ) (r : Child) 
                 ap (λ (ss : List (List ℕ)). told (follow sw text k n t ss)) (split-path path e q h)
                 ∙ ap (λ (o : Option Numbered). told (onward k o (λ (c : Numbered). follow sw text (suc k) (c .number) (c .value) rest))) d
             | no h ↦
-                let w = front-within path in
+                let w = front-le isStepByte path in
                 let z : e ≡ length path = omega arith in
                 ap (λ (ss : List (List ℕ)). told (follow sw text k n t ss)) (whole-path z)
                 ∙ ap (λ (o : Option Numbered). told (onward k o (λ (c : Numbered). at (c .number)))) d

@@ -3,13 +3,15 @@ use native.Mathlib.Omega.{arith}
 use mathlib.Core.Path.{sym, _∙_}
 use Prim.Native.Nat.{_<_, _+_, _*_, _-_}
 use lib.ListN.{length}
-use Rattle.nodes.proofs.WordLaws.{word-in}
-use Rattle.nodes.proofs.ChildLaws.{stands-word, ElementWalk, element-start, element-here, element-hit, element-on, element-end}
+use Rattle.nodes.proofs.WalkLaws.{walk-word, walk-less}
+use Rattle.nodes.proofs.ChildLaws.{stands-word, ElementWalk, element-start, element-hit, element-on, element-end}
 use Rattle.nodes.proofs.children.find_element.Statement.{statement}
 use Rattle.nodes.proofs.children.find_element.Tie as tie
 use Rattle.nodes.proofs.children.find_element.Reads as reads
 use Rattle.nodes.proofs.children.find_element.Lts as lts
 use Rattle.nodes.proofs.words.word_of.Reads as word-of-reads
+
+
 
 abbrev Inv-loop : tie.InvT-loop
 Inv-loop table n i end left₀ x₀ left x = ElementWalk i table n left x
@@ -33,11 +35,10 @@ sub-left : tie.Need-sub-left Inv-loop μ-loop
 sub-left c = omega arith
 
 word-of-requires-2 : tie.Need-word-of-requires-2 Inv-loop μ-loop
-word-of-requires-2 c κs = let H = element-here _ _ _ _ _ _ (c .before .before .loop .inv) (c .before .before .before .word-of .ensures) (omega arith) (c .before .before .before .before .before .pre .value) (c .before .before .before .before .before .pre .node) in word-in _ _ (H .value) (H .node) 8 (omega arith)
+word-of-requires-2 c κs = walk-word _ _ _ _ _ _ _ _ (c .before .before .loop .inv .of (c .before .before .before .before .before .pre .value) (c .before .before .before .before .before .pre .node)) (c .before .before .before .word-of .ensures) (omega arith) (omega arith)
 
 loop-less : tie.Need-loop-less Inv-loop μ-loop
-loop-less c = let H = element-here _ _ _ _ _ _ (c .before .before .before .loop .inv) (c .before .before .before .before .word-of .ensures) (omega arith) (c .before .before .before .before .before .before .pre .value) (c .before .before .before .before .before .before .pre .node) in
-    let u = H .up in let w = H .within in let e = c .before .before .before .before .word-of .ensures in let f = c .word-of2 .ensures in omega arith
+loop-less c = let l = walk-less _ _ _ _ _ _ _ _ (c .before .before .before .loop .inv .of (c .before .before .before .before .before .before .pre .value) (c .before .before .before .before .before .before .pre .node)) (c .before .before .before .before .word-of .ensures) (omega arith) (c .word-of2 .ensures) in omega arith
 
 loop-again : tie.Need-loop-again Inv-loop μ-loop
 loop-again c = element-on _ _ _ _ _ _ _ (c .before .before .before .loop .inv) (c .before .before .before .before .word-of .ensures) (omega arith) (c .before .if1 .left) (c .word-of2 .ensures)

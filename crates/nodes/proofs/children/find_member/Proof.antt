@@ -3,14 +3,16 @@ use native.Mathlib.Omega.{arith}
 use mathlib.Core.Path.{sym, _∙_}
 use Prim.Native.Nat.{_<_, _+_, _*_, _-_}
 use lib.ListN.{length}
-use Rattle.nodes.proofs.WordLaws.{word-in}
-use Rattle.nodes.proofs.ChildLaws.{stands-word, MemberWalk, member-start, member-here, member-hit, member-on, member-end}
+use Rattle.nodes.proofs.WalkLaws.{walk-word, walk-less}
+use Rattle.nodes.proofs.ChildLaws.{stands-word, MemberWalk, member-start, member-hit, member-on, member-end}
 use Rattle.nodes.proofs.children.find_member.Statement.{statement}
 use Rattle.nodes.proofs.children.find_member.Tie as tie
 use Rattle.nodes.proofs.children.find_member.Reads as reads
 use Rattle.nodes.proofs.children.find_member.Lts as lts
 use Rattle.nodes.proofs.contents.says_at.Reads as says-at-reads
 use Rattle.nodes.proofs.words.word_of.Reads as word-of-reads
+
+
 
 abbrev Inv-loop : tie.InvT-loop
 Inv-loop sw text table n key end x₀ x = MemberWalk sw text key table n x
@@ -28,10 +30,10 @@ loop-holds : tie.Need-loop-holds Inv-loop μ-loop
 loop-holds c = member-start _ _ _ _ _
 
 word-of-requires-2 : tie.Need-word-of-requires-2 Inv-loop μ-loop
-word-of-requires-2 c κs = let H = member-here _ _ _ _ _ _ _ (c .before .loop .inv) (c .before .before .word-of .ensures) (omega arith) (c .before .before .before .before .before .before .pre .value) (c .before .before .before .before .before .before .pre .node) in word-in _ _ (H .value) (H .node) 4 (omega arith)
+word-of-requires-2 c κs = walk-word _ _ _ _ _ _ _ _ (c .before .loop .inv .of (c .before .before .before .before .before .before .pre .value) (c .before .before .before .before .before .before .pre .node)) (c .before .before .word-of .ensures) (omega arith) (omega arith)
 
 word-of-requires-3 : tie.Need-word-of-requires-3 Inv-loop μ-loop
-word-of-requires-3 c κs = let H = member-here _ _ _ _ _ _ _ (c .before .before .loop .inv) (c .before .before .before .word-of .ensures) (omega arith) (c .before .before .before .before .before .before .before .pre .value) (c .before .before .before .before .before .before .before .pre .node) in word-in _ _ (H .value) (H .node) 5 (omega arith)
+word-of-requires-3 c κs = walk-word _ _ _ _ _ _ _ _ (c .before .before .loop .inv .of (c .before .before .before .before .before .before .before .pre .value) (c .before .before .before .before .before .before .before .pre .node)) (c .before .before .before .word-of .ensures) (omega arith) (omega arith)
 
 says-at-requires : tie.Need-says-at-requires Inv-loop μ-loop
 says-at-requires c κs = search needs
@@ -40,11 +42,10 @@ returns : tie.Need-returns Inv-loop μ-loop
 returns c = member-hit _ _ _ _ _ _ _ _ _ _ (c .before .before .before .before .before .loop .inv) (c .before .before .before .before .before .before .word-of .ensures) (omega arith) (c .before .before .before .word-of2 .ensures) (c .before .before .word-of3 .ensures) (c .before .says-at .ensures) (c .if1 .taken)
 
 word-of-requires-4 : tie.Need-word-of-requires-4 Inv-loop μ-loop
-word-of-requires-4 c κs = let H = member-here _ _ _ _ _ _ _ (c .before .before .before .before .before .loop .inv) (c .before .before .before .before .before .before .word-of .ensures) (omega arith) (c .before .before .before .before .before .before .before .before .before .before .pre .value) (c .before .before .before .before .before .before .before .before .before .before .pre .node) in word-in _ _ (H .value) (H .node) 8 (omega arith)
+word-of-requires-4 c κs = walk-word _ _ _ _ _ _ _ _ (c .before .before .before .before .before .loop .inv .of (c .before .before .before .before .before .before .before .before .before .before .pre .value) (c .before .before .before .before .before .before .before .before .before .before .pre .node)) (c .before .before .before .before .before .before .word-of .ensures) (omega arith) (omega arith)
 
 loop-less : tie.Need-loop-less Inv-loop μ-loop
-loop-less c = let H = member-here _ _ _ _ _ _ _ (c .before .before .before .before .before .before .loop .inv) (c .before .before .before .before .before .before .before .word-of .ensures) (omega arith) (c .before .before .before .before .before .before .before .before .before .before .before .pre .value) (c .before .before .before .before .before .before .before .before .before .before .before .pre .node) in
-    let u = H .up in let w = H .within in let e = c .before .before .before .before .before .before .before .word-of .ensures in let f = c .word-of4 .ensures in omega arith
+loop-less c = let l = walk-less _ _ _ _ _ _ _ _ (c .before .before .before .before .before .before .loop .inv .of (c .before .before .before .before .before .before .before .before .before .before .before .pre .value) (c .before .before .before .before .before .before .before .before .before .before .before .pre .node)) (c .before .before .before .before .before .before .before .word-of .ensures) (omega arith) (c .word-of4 .ensures) in omega arith
 
 loop-again : tie.Need-loop-again Inv-loop μ-loop
 loop-again c = member-on _ _ _ _ _ _ _ _ _ _ _ (c .before .before .before .before .before .before .loop .inv) (c .before .before .before .before .before .before .before .word-of .ensures) (omega arith) (c .before .before .before .before .word-of2 .ensures) (c .before .before .before .word-of3 .ensures) (c .before .before .says-at .ensures) (c .before .if1 .left) (c .word-of4 .ensures)

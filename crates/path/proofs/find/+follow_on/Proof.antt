@@ -5,7 +5,8 @@ use Prim.Native.Nat.{_≤_, _-_, _+_, _*_}
 use lib.ListN.{length, take, drop}
 use lib.Seq.{length-take-le}
 use Rattle.path.specs.Path.{pieces}
-use Rattle.path.proofs.StepLaws.{front-within}
+use Rattle.lexer.proofs.ItemCases.{front-le}
+use Rattle.path.specs.Internal.{isStepByte}
 use Rattle.path.proofs.FollowLaws.{gone-stands, fewer-steps, follow-last, follow-next, follow-missing}
 use Prim.Native.Nat.{ℕ, _<_}
 use borrow.Fn.Kinds.{In}
@@ -17,6 +18,8 @@ use Rattle.path.proofs.find.find_child.Reads as find-child-reads
 use Rattle.path.proofs.steps.step_end.Reads as step-end-reads
 use Rattle.path.proofs.find.+follow_on.{statement}
 use Rattle.path.proofs.find.+follow_on.Tie.{close}
+
+
 
 abbrev μ-follow-on : Measures 3 follow-on-kinds.ps ℕ
 μ-follow-on κs a = length (pieces (a .1 .1 .1 .0 .now))
@@ -36,7 +39,7 @@ follow-on-step-end-requires : (t : ℕ) → follow-on-lts.Need-step-end-requires
 follow-on-step-end-requires t c κs = search needs
 
 follow-on-slice-aggregate-find-child : (t : ℕ) → follow-on-lts.Need-slice-aggregate-find-child (follow-on-calls t) (follow-on-at t) follow-on.Post
-follow-on-slice-aggregate-find-child t c = let w = front-within (c .before .before .before .before .before .args .path .now) in let q = c .before .step-end .ensures in sym (length-take-le _ _ (omega arith))
+follow-on-slice-aggregate-find-child t c = let w = front-le isStepByte (c .before .before .before .before .before .args .path .now) in let q = c .before .step-end .ensures in sym (length-take-le _ _ (omega arith))
 
 follow-on-find-child-requires : (t : ℕ) → follow-on-lts.Need-find-child-requires (follow-on-calls t) (follow-on-at t) follow-on.Post
 follow-on-find-child-requires t c κs = c .before .before .before .before .before .pre .1 .0
@@ -48,22 +51,22 @@ follow-on-returns : (t : ℕ) → follow-on-lts.Need-returns (follow-on-calls t)
 follow-on-returns t c = follow-last _ _ _ _ _ _ _ _ (c .before .before .before .before .before .before .step-end .ensures) (c .before .before .before .before .find-child .ensures) _ (c .before .before .m .given .1) (c .if1 .taken)
 
 follow-on-add-follow-on : (t : ℕ) → follow-on-lts.Need-add-follow-on (follow-on-calls t) (follow-on-at t) follow-on.Post
-follow-on-add-follow-on t c = let w = front-within (c .before .before .before .before .before .before .before .before .before .before .args .path .now) in let q = c .before .before .before .before .before .before .step-end .ensures in omega arith
+follow-on-add-follow-on t c = let w = front-le isStepByte (c .before .before .before .before .before .before .before .before .before .before .args .path .now) in let q = c .before .before .before .before .before .before .step-end .ensures in omega arith
 
 follow-on-sub-follow-on : (t : ℕ) → follow-on-lts.Need-sub-follow-on (follow-on-calls t) (follow-on-at t) follow-on.Post
-follow-on-sub-follow-on t c = let w = front-within (c .before .before .before .before .before .before .before .before .before .before .args .path .now) in let q = c .before .before .before .before .before .before .step-end .ensures in omega arith
+follow-on-sub-follow-on t c = let w = front-le isStepByte (c .before .before .before .before .before .before .before .before .before .before .args .path .now) in let q = c .before .before .before .before .before .before .step-end .ensures in omega arith
 
 follow-on-part-follow-on-start : (t : ℕ) → follow-on-lts.Need-part-follow-on-start (follow-on-calls t) (follow-on-at t) follow-on.Post
-follow-on-part-follow-on-start t c = let w = front-within (c .before .before .before .before .before .before .before .before .before .before .args .path .now) in let q = c .before .before .before .before .before .before .step-end .ensures in omega arith
+follow-on-part-follow-on-start t c = let w = front-le isStepByte (c .before .before .before .before .before .before .before .before .before .before .args .path .now) in let q = c .before .before .before .before .before .before .step-end .ensures in omega arith
 
 follow-on-part-follow-on-end : (t : ℕ) → follow-on-lts.Need-part-follow-on-end (follow-on-calls t) (follow-on-at t) follow-on.Post
-follow-on-part-follow-on-end t c = let w = front-within (c .before .before .before .before .before .before .before .before .before .before .args .path .now) in let q = c .before .before .before .before .before .before .step-end .ensures in omega arith
+follow-on-part-follow-on-end t c = let w = front-le isStepByte (c .before .before .before .before .before .before .before .before .before .before .args .path .now) in let q = c .before .before .before .before .before .before .step-end .ensures in omega arith
 
 follow-on-add-follow-on-2 : (t : ℕ) → follow-on-lts.Need-add-follow-on-2 (follow-on-calls t) (follow-on-at t) follow-on.Post
 follow-on-add-follow-on-2 t c = omega (arith, c .before .before .before .before .before .before .before .before .before .before .before .pre .1 .1)
 
 follow-on-follow-on-requires : (t : ℕ) → follow-on-lts.Need-follow-on-requires (follow-on-calls t) (follow-on-at t) follow-on.Post
-follow-on-follow-on-requires t c κs = let w = front-within (c .before .before .before .before .before .before .before .before .before .before .before .args .path .now) in let q = c .before .before .before .before .before .before .before .step-end .ensures in
+follow-on-follow-on-requires t c κs = let w = front-le isStepByte (c .before .before .before .before .before .before .before .before .before .before .before .args .path .now) in let q = c .before .before .before .before .before .before .before .step-end .ensures in
     let f = fewer-steps (c .before .before .before .before .before .before .before .before .before .before .before .args .path .now) _ (c .before .before .before .before .before .before .before .step-end .ensures) (omega arith) in
     (omega arith, (gone-stands _ _ _ _ _ _ (c .before .before .before .before .before .find-child .ensures) _ (c .before .before .before .m .given .1) (c .before .before .before .before .before .before .before .before .before .before .before .pre .1 .0), omega (arith, c .before .before .before .before .before .before .before .before .before .before .before .pre .1 .1)))
 
@@ -71,7 +74,7 @@ follow-on-enum-told : (t : ℕ) → follow-on-lts.Need-enum-told (follow-on-call
 follow-on-enum-told t c = search needs
 
 follow-on-returns-2 : (t : ℕ) → follow-on-lts.Need-returns-2 (follow-on-calls t) (follow-on-at t) follow-on.Post
-follow-on-returns-2 t c = let w = front-within (c .before .before .before .before .before .before .before .before .before .before .before .before .args .path .now) in let q = c .before .before .before .before .before .before .before .before .step-end .ensures in
+follow-on-returns-2 t c = let w = front-le isStepByte (c .before .before .before .before .before .before .before .before .before .before .before .before .args .path .now) in let q = c .before .before .before .before .before .before .before .before .step-end .ensures in
     follow-next _ _ _ _ _ _ _ _ (c .before .before .before .before .before .before .before .before .step-end .ensures) (c .before .before .before .before .before .before .find-child .ensures) _ _ (c .before .before .before .before .m .given .1) (omega arith) (c .follow-on .ensures)
 
 follow-on-returns-3 : (t : ℕ) → follow-on-lts.Need-returns-3 (follow-on-calls t) (follow-on-at t) follow-on.Post
