@@ -12,43 +12,44 @@ use Rattle.text.specs.declared.switches.Switches.{Switches}
 use Rattle.literals.specs.Content.{sameContent}
 use Rattle.reader.specs.Tree.{Span, Tree, nil, headOf, size, nodeWords}
 use Rattle.reader.specs.Reading.{wordOf}
-use Rattle.nodes.specs.Nodes.{childrenOf, Numbered, numbered, firstThat, nth, says, contentOfKey, hasKey, member, element}
-use Rattle.nodes.specs.Answers.{childTold}
+use Rattle.reader.specs.Content.{spanContent}
+use Rattle.nodes.specs.Nodes.{childrenOf, Numbered, numbered, firstThat, nth, contentOfKey, hasKey, member, element}
+use Rattle.nodes.specs.Answers.{childAnswer}
 use Rattle.nodes.specs.Stands.{Node, Stands, KindIs, MemberIs, ElementIs}
 use Rattle.nodes.specs.declared.children.Child.the-variants as C
 use Rattle.nodes.proofs.WordLaws.{firstOf, secondOf, word-in, word-key, word-kind}
 use Rattle.nodes.proofs.WalkLaws.{Walk, Here, walk-start, walk-here, walk-done, walk-next}
-use Rattle.nodes.proofs.SaysLaws.{nothing-said}
+use Rattle.nodes.proofs.ContentLaws.{nothing-there}
 
 -- what a node's words 4 and 5 say of its key
-pub key-said : (sw : Switches) (text key table : List ℕ) (n : ℕ) (t : Tree) → Node table n t → says sw text (wordOf table n 4) (wordOf table n 5) key ≡ hasKey sw text key t
-unfolding hasKey contentOfKey says sameContent firstOf secondOf
-key-said sw text key table n t N =
+pub key-asked : (sw : Switches) (text key table : List ℕ) (n : ℕ) (t : Tree) → Node table n t → sameContent (spanContent sw (wordOf table n 4) (wordOf table n 5) text) (some key) ≡ hasKey sw text key t
+unfolding hasKey contentOfKey sameContent firstOf secondOf
+key-asked sw text key table n t N =
     let w = word-key table n t N in
-    (λ i. says sw text (w .0 i) (w .1 i) key) ∙ by (headOf t .key)
+    (λ i. sameContent (spanContent sw (w .0 i) (w .1 i) text) (some key)) ∙ by (headOf t .key)
   where
-    by : (o : Option Span) → says sw text (firstOf o) (secondOf o) key ≡ sameContent (contentOfKey sw text o) (some key)
-    by none = nothing-said sw text key
+    by : (o : Option Span) → sameContent (spanContent sw (firstOf o) (secondOf o) text) (some key) ≡ sameContent (contentOfKey sw text o) (some key)
+    by none = nothing-there sw text key
     by (some s) = refl
 
 -- the words of a node lie in the table
 pub stands-word : (table : List ℕ) (n : ℕ) → Stands table n → (w : ℕ) → w < nodeWords → nodeWords * n + w < length table
 stands-word table n S w h = word-in table n (S .value) (S .node) w h
 
-pub kind-told : (table : List ℕ) (n r : ℕ) → r ≡ wordOf table n 0 → KindIs table n r
-kind-told table n r e = record { is = λ t N. e ∙ word-kind table n t N }
+pub kind-answer : (table : List ℕ) (n r : ℕ) → r ≡ wordOf table n 0 → KindIs table n r
+kind-answer table n r e = record { is = λ t N. e ∙ word-kind table n t N }
 
 -- ---- what an answer tells
 
-pub told-at : (o : Option Numbered) (m : ℕ) → childTold o ≡ C.At m → (v : Tree) × (o ≡ some (numbered m v))
-unfolding childTold
-told-at none m e = let v : _≡_ {A = ℕ} 0 1 = cc in absurd (omega arith)
-told-at (some c) m e = (c .value, let q : c .number ≡ m = cc in ap (λ (k : ℕ). some (numbered k (c .value))) q)
+pub answer-at : (o : Option Numbered) (m : ℕ) → childAnswer o ≡ C.At m → (v : Tree) × (o ≡ some (numbered m v))
+unfolding childAnswer
+answer-at none m e = let v : _≡_ {A = ℕ} 0 1 = cc in absurd (omega arith)
+answer-at (some c) m e = (c .value, let q : c .number ≡ m = cc in ap (λ (k : ℕ). some (numbered k (c .value))) q)
 
-pub told-nothing : (o : Option Numbered) → childTold o ≡ C.Nothing → o ≡ none
-unfolding childTold
-told-nothing none e = refl
-told-nothing (some c) e = cc
+pub answer-nothing : (o : Option Numbered) → childAnswer o ≡ C.Nothing → o ≡ none
+unfolding childAnswer
+answer-nothing none e = refl
+answer-nothing (some c) e = cc
 
 -- ---- by key
 
@@ -74,31 +75,31 @@ module _ (sw : Switches) (text key table : List ℕ) (n : ℕ) where
   member-here x end W e h t N = walk-here (Option Numbered) (firstThat (hasKey sw text key)) (member sw text key n t) table n x (W .of t N) (omega arith)
 
   pub member-hit : (x end a e : ℕ) (r : Bool) → MemberWalk sw text key table n x → end ≡ wordOf table n 8 → x < end → a ≡ wordOf table x 4 → e ≡ wordOf table x 5
-      → r ≡ says sw text a e key → r ≡ true → MemberIs sw text key table n (C.At x)
-  unfolding firstThat childTold
+      → r ≡ sameContent (spanContent sw a e text) (some key) → r ≡ true → MemberIs sw text key table n (C.At x)
+  unfolding firstThat childAnswer
   member-hit x end a e r W g h p q s y = record { is = λ t N. at t (member-here x end W g h t N) }
     where
-      at : (t : Tree) → MemberHere t x → C.At x ≡ childTold (member sw text key n t)
+      at : (t : Tree) → MemberHere t x → C.At x ≡ childAnswer (member sw text key n t)
       at t H =
-          let k : hasKey sw text key (H .value) ≡ true = sym (key-said sw text key table x (H .value) (H .node)) ∙ (λ i. says sw text (sym p i) (sym q i) key) ∙ sym s ∙ y in
-          sym (ap (λ (b : Bool). childTold (cond b (some (numbered x (H .value))) (firstThat (hasKey sw text key) (x + size (H .value)) (H .later)))) k)
-          ∙ ap childTold (H .same)
+          let k : hasKey sw text key (H .value) ≡ true = sym (key-asked sw text key table x (H .value) (H .node)) ∙ (λ i. sameContent (spanContent sw (sym p i) (sym q i) text) (some key)) ∙ sym s ∙ y in
+          sym (ap (λ (b : Bool). childAnswer (cond b (some (numbered x (H .value))) (firstThat (hasKey sw text key) (x + size (H .value)) (H .later)))) k)
+          ∙ ap childAnswer (H .same)
 
   pub member-on : (x end a e y : ℕ) (r : Bool) → MemberWalk sw text key table n x → end ≡ wordOf table n 8 → x < end → a ≡ wordOf table x 4 → e ≡ wordOf table x 5
-      → r ≡ says sw text a e key → r ≡ false → y ≡ wordOf table x 8 → MemberWalk sw text key table n y
+      → r ≡ sameContent (spanContent sw a e text) (some key) → r ≡ false → y ≡ wordOf table x 8 → MemberWalk sw text key table n y
   unfolding firstThat
   member-on x end a e y r W z h p q s f g = record { of = λ t N. on t (member-here x end W z h t N) }
     where
       on : (t : Tree) → MemberHere t x → Walk (Option Numbered) (firstThat (hasKey sw text key)) (member sw text key n t) table n y
       on t H =
-          let k : hasKey sw text key (H .value) ≡ false = sym (key-said sw text key table x (H .value) (H .node)) ∙ (λ i. says sw text (sym p i) (sym q i) key) ∙ sym s ∙ f in
+          let k : hasKey sw text key (H .value) ≡ false = sym (key-asked sw text key table x (H .value) (H .node)) ∙ (λ i. sameContent (spanContent sw (sym p i) (sym q i) text) (some key)) ∙ sym s ∙ f in
           walk-next (Option Numbered) (firstThat (hasKey sw text key)) (firstThat (hasKey sw text key)) (member sw text key n t) table n x y H g
           (sym (ap (λ (b : Bool). cond b (some (numbered x (H .value))) (firstThat (hasKey sw text key) (x + size (H .value)) (H .later))) k))
 
   pub member-end : (x end : ℕ) → MemberWalk sw text key table n x → end ≡ wordOf table n 8 → end ≤ x → MemberIs sw text key table n C.Nothing
-  unfolding firstThat childTold
+  unfolding firstThat childAnswer
   member-end x end W e h =
-      record { is = λ t N. ap childTold (walk-done (Option Numbered) (firstThat (hasKey sw text key)) (member sw text key n t) table n x (W .of t N) (omega arith)) }
+      record { is = λ t N. ap childAnswer (walk-done (Option Numbered) (firstThat (hasKey sw text key)) (member sw text key n t) table n x (W .of t N) (omega arith)) }
 
 -- ---- by index
 
@@ -118,9 +119,9 @@ module _ (i : ℕ) (table : List ℕ) (n : ℕ) where
   element-here : (left x end : ℕ) → ElementWalk i table n left x → end ≡ wordOf table n 8 → x < end → (t : Tree) → Node table n t → ElementHere t left x
   element-here left x end W e h t N = walk-here (Option Numbered) (nth left) (element i n t) table n x (W .of t N) (omega arith)
 
-  hit-by : (t : Tree) (left x : ℕ) → ElementHere t left x → left ≡ 0 → C.At x ≡ childTold (element i n t)
-  unfolding nth childTold
-  hit-by t zero x H z = ap childTold (H .same)
+  hit-by : (t : Tree) (left x : ℕ) → ElementHere t left x → left ≡ 0 → C.At x ≡ childAnswer (element i n t)
+  unfolding nth childAnswer
+  hit-by t zero x H z = ap childAnswer (H .same)
   hit-by t (suc left) x H z = absurd (omega arith)
 
   pub element-hit : (left x end : ℕ) → ElementWalk i table n left x → end ≡ wordOf table n 8 → x < end → left ≡ 0 → ElementIs i table n (C.At x)
@@ -138,10 +139,10 @@ module _ (i : ℕ) (table : List ℕ) (n : ℕ) where
       → ElementWalk i table n (left - 1) y
   element-on left x end y W e h z g = record { of = λ t N. on-by t left x y (element-here left x end W e h t N) z g }
 
-  none-by : (t : Tree) (left x : ℕ) → nth left x nil ≡ element i n t → C.Nothing ≡ childTold (element i n t)
-  unfolding nth childTold
-  none-by t zero x d = ap childTold d
-  none-by t (suc left) x d = ap childTold d
+  none-by : (t : Tree) (left x : ℕ) → nth left x nil ≡ element i n t → C.Nothing ≡ childAnswer (element i n t)
+  unfolding nth childAnswer
+  none-by t zero x d = ap childAnswer d
+  none-by t (suc left) x d = ap childAnswer d
 
   pub element-end : (left x end : ℕ) → ElementWalk i table n left x → end ≡ wordOf table n 8 → end ≤ x → ElementIs i table n C.Nothing
   element-end left x end W e h =

@@ -18,7 +18,7 @@ use Rattle.reader.specs.Tree.{Span, Scalar, Tree, leaf, branch, Forest, nil, co
 use Rattle.reader.specs.declared.tree.Limits.{Limits}
 use Rattle.reader.specs.Syntax.{Label, Frame, Slot, first, lone, after, more, Mode, value, named, inner, close, inside, colon, done, Config, Step, go, refuse, Begins, container, scalar, identifier, nothing, spanOf, isMark, closer, isObject, keyOf, begins, headBy, stopAt, withStop, finished, ended, goTo, refuseIf, isComma, emptyByComma, holds, keyStep, closeOr, counted, valueStep, freshValue, childStep, slotStep, modeStep, step, Outcome, taken, refused, atEnd, afterStep, run, before}
 use Rattle.nodes.specs.Nodes.{contentOfKey}
-use Rattle.nodes.specs.Sound.{AllScalars, AllScalarsIn, KeysAre, Different, NoKeys, Keyed, AllKeyed, AllKeyedIn}
+use Rattle.nodes.specs.InternalTrees.{AllScalars, AllScalarsIn, KeysAre, Different, NoKeys, ChildKeys, AllKeyed, AllKeyedIn}
 
 -- a value with another end has the same key
 stop-key : (m : ℕ) (t : Tree) → headOf t .key ≡ headOf (withStop m t) .key
@@ -154,8 +154,8 @@ module _ (P : Scalar → Type 0) (sw : Switches) (text : List ℕ) where
   plain-within Tuple f keys o b = (b, refl)
 
   -- the container is closed
-  between-keyed : (kind : Kind) (f : Forest) (keys : List (List ℕ)) → Between kind f keys → Keyed sw text kind f
-  unfolding Between Keyed
+  between-keyed : (kind : Kind) (f : Forest) (keys : List (List ℕ)) → Between kind f keys → ChildKeys sw text kind f
+  unfolding Between ChildKeys
   between-keyed Object f keys b = (keys, b .0, b .1)
   between-keyed Array f keys b = b
   between-keyed Tuple f keys b = b

@@ -19,7 +19,7 @@ use Rattle.reader.specs.Tree.{Head, Scalar, Tree, leaf, branch, Forest, nil, co
 use Rattle.reader.specs.Syntax.{holds, taken}
 use Rattle.reader.specs.Reading.{reading}
 use Rattle.nodes.specs.Nodes.{nodeAt, nodeIn, kindOf, childrenOf, Numbered, numbered, firstThat, nth, contentOfKey, hasKey, member, element}
-use Rattle.nodes.specs.Sound.{AllScalars, AllScalarsIn, KeysAre, Different, Keyed, AllKeyed, AllKeyedIn}
+use Rattle.nodes.specs.InternalTrees.{AllScalars, AllScalarsIn, KeysAre, Different, ChildKeys, AllKeyed, AllKeyedIn}
 use Rattle.nodes.proofs.WordLaws.{some-is, none-is, scalar-high}
 use Rattle.nodes.proofs.SoundLaws.{reading-keyed}
 
@@ -71,60 +71,85 @@ module _ (sw : Switches) (text : List ℕ) where
   each-keyed (cons t f) (k ∷ ks) zero n c a e = (k, ap (λ (d : Numbered). contentOfKey sw text (headOf (d .value) .key)) (sym (some-is e)) ∙ a .0)
   each-keyed (cons t f) (k ∷ ks) (suc i) n c a e = each-keyed f ks i (n + size t) c (a .1) e
 
-  module _ (key : List ℕ) (c : Numbered) (has : hasKey sw text key (c .value) ≡ true) where
-    -- one with this key has it among the keys
-    held : (f : Forest) (ks : List (List ℕ)) (i n : ℕ) → KeysAre sw text f ks → nth i n f ≡ some c → holds ks key ≡ true
-    unfolding KeysAre nth holds
-    held nil ks i n a e = none-is e
-    held (cons t f) [] i n a e = absurd a
-    held (cons t f) (k ∷ ks) zero n a e =
-        let q : sameBytes k key ≡ true = sym (key-is k key t (a .0)) ∙ ap (λ (d : Numbered). hasKey sw text key (d .value)) (some-is e) ∙ has in
-        rw q
-    held (cons t f) (k ∷ ks) (suc i) n a e = or-second (sameBytes k key) (holds ks key) (held f ks i (n + size t) (a .1) e)
+  module _ (key : List ℕ) where
+    -- the first of them is this child
+    at-front : (t : Tree) (f : Forest) (n : ℕ) (c : Numbered) → nth 0 n (cons t f) ≡ some c → hasKey sw text key (c .value) ≡ true
+        → hasKey sw text key t ≡ true
+    unfolding nth
+    at-front t f n c e has = ap (λ (d : Numbered). hasKey sw text key (d .value)) (some-is e) ∙ has
 
-    -- so none before it has
-    pub first-is : (f : Forest) (ks : List (List ℕ)) (i n : ℕ) → KeysAre sw text f ks → Different ks → nth i n f ≡ some c
-        → firstThat (hasKey sw text key) n f ≡ some c
-    unfolding KeysAre Different nth firstThat
-    first-is nil ks i n a d e = none-is e
-    first-is (cons t f) [] i n a d e = absurd a
-    first-is (cons t f) (k ∷ ks) zero n a d e =
-        let q : hasKey sw text key t ≡ true = ap (λ (d : Numbered). hasKey sw text key (d .value)) (some-is e) ∙ has in
-        cond-true (hasKey sw text key t) (some (numbered n t)) (firstThat (hasKey sw text key) (n + size t) f) q ∙ e
-    first-is (cons t f) (k ∷ ks) (suc i) n a d e =
-        cond-false (hasKey sw text key t) (some (numbered n t)) (firstThat (hasKey sw text key) (n + size t) f) (other (hasKey sw text key t) refl)
-        ∙ first-is f ks i (n + size t) (a .1) (d .1) e
+    -- one with this key has it among the keys
+    held : (f : Forest) (ks : List (List ℕ)) (i n : ℕ) (c : Numbered) → KeysAre sw text f ks → nth i n f ≡ some c → hasKey sw text key (c .value) ≡ true
+        → holds ks key ≡ true
+    unfolding KeysAre nth holds
+    held nil ks i n c a e has = none-is e
+    held (cons t f) [] i n c a e has = absurd a
+    held (cons t f) (k ∷ ks) zero n c a e has =
+        let q : sameBytes k key ≡ true = sym (key-is k key t (a .0)) ∙ at-front t f n c e has in
+        rw q
+    held (cons t f) (k ∷ ks) (suc i) n c a e has = or-second (sameBytes k key) (holds ks key) (held f ks i (n + size t) c (a .1) e has)
+
+    -- so one before it has another
+    not-before : (t : Tree) (f : Forest) (k : List ℕ) (ks : List (List ℕ)) (i n : ℕ) (c : Numbered) → contentOfKey sw text (headOf t .key) ≡ some k
+        → KeysAre sw text f ks → holds ks k ≡ false → nth i n f ≡ some c → hasKey sw text key (c .value) ≡ true → hasKey sw text key t ≡ false
+    not-before t f k ks i n c q a h e has = by (hasKey sw text key t) refl
       where
-        other : (b : Bool) → hasKey sw text key t ≡ b → hasKey sw text key t ≡ false
-        other false q = q
-        other true q =
-            let s = same-is k key (sym (key-is k key t (a .0)) ∙ q) in
-            absurd (true≢false (sym (held f ks i (n + size t) (a .1) e) ∙ ap (holds ks) (sym s) ∙ d .0))
+        by : (b : Bool) → hasKey sw text key t ≡ b → b ≡ false
+        by false p = refl
+        by true p =
+            let s = same-is k key (sym (key-is k key t q) ∙ p) in
+            absurd (true≢false (sym (held f ks i n c a e has) ∙ ap (holds ks) (sym s) ∙ h))
+
+    -- the first with this key is the only one
+    pub first-is : (f : Forest) (ks : List (List ℕ)) (i n : ℕ) (c : Numbered) → KeysAre sw text f ks → Different ks → nth i n f ≡ some c
+        → hasKey sw text key (c .value) ≡ true → firstThat (hasKey sw text key) n f ≡ some c
+    unfolding KeysAre Different nth firstThat
+    first-is nil ks i n c a d e has = none-is e
+    first-is (cons t f) [] i n c a d e has = absurd a
+    first-is (cons t f) (k ∷ ks) zero n c a d e has =
+        cond-true (hasKey sw text key t) (some (numbered n t)) (firstThat (hasKey sw text key) (n + size t) f) (at-front t f n c e has) ∙ e
+    first-is (cons t f) (k ∷ ks) (suc i) n c a d e has =
+        cond-false (hasKey sw text key t) (some (numbered n t)) (firstThat (hasKey sw text key) (n + size t) f)
+        (not-before t f k ks i (n + size t) c (a .0) (a .1) (d .0) e has)
+        ∙ first-is f ks i (n + size t) c (a .1) (d .1) e has
+
+    -- and two with it are one
+    pub same-index : (f : Forest) (ks : List (List ℕ)) (i j n : ℕ) (c d : Numbered) → KeysAre sw text f ks → Different ks → nth i n f ≡ some c → nth j n f ≡ some d
+        → hasKey sw text key (c .value) ≡ true → hasKey sw text key (d .value) ≡ true → i ≡ j
+    unfolding KeysAre Different nth
+    same-index nil ks i j n c d a D e g p q = none-is e
+    same-index (cons t f) [] i j n c d a D e g p q = absurd a
+    same-index (cons t f) (k ∷ ks) zero zero n c d a D e g p q = refl
+    same-index (cons t f) (k ∷ ks) zero (suc j) n c d a D e g p q =
+        absurd (true≢false (sym (at-front t f n c e p) ∙ not-before t f k ks j (n + size t) d (a .0) (a .1) (D .0) g q))
+    same-index (cons t f) (k ∷ ks) (suc i) zero n c d a D e g p q =
+        absurd (true≢false (sym (at-front t f n d g q) ∙ not-before t f k ks i (n + size t) c (a .0) (a .1) (D .0) e p))
+    same-index (cons t f) (k ∷ ks) (suc i) (suc j) n c d a D e g p q = ap suc (same-index f ks i j (n + size t) c d (a .1) (D .1) e g p q)
 
 -- ---- in a text that was taken
 
 module _ (sw : Switches) (words : ℕ) (text : List ℕ) (tree : Tree) (e : reading sw words text ≡ taken tree) where
-  -- a node that is an object
-  object-keys : (n : ℕ) (h : Head) (f : Forest) → nodeAt tree n ≡ some (branch h Object f) → Keyed sw text Object f
-  unfolding AllKeyed
-  object-keys n h f q = keyed-node sw text tree (branch h Object f) n q (reading-keyed sw words text tree e) .0
+  -- the children of a node that is an object have keys, with different contents
+  members : (n : ℕ) (t : Tree) → nodeAt tree n ≡ some t → kindOf t ≡ 1 → (ks : List (List ℕ)) × KeysAre sw text (childrenOf t) ks × Different ks
+  unfolding kindOf kindNumber childrenOf AllKeyed ChildKeys
+  members n (leaf h s) q o = let z = scalar-high s in absurd (omega arith)
+  members n (branch h Object f) q o = keyed-node sw text tree (branch h Object f) n q (reading-keyed sw words text tree e) .0
+  members n (branch h Array f) q o = absurd (omega arith)
+  members n (branch h Tuple f) q o = absurd (omega arith)
 
-  -- every child of an object has a key, and its key has a content
-  pub child-keyed : (n i : ℕ) (t : Tree) (c : Numbered) → nodeAt tree n ≡ some t → kindOf t ≡ 1 → element i n t ≡ some c
-      → (k : List ℕ) × (contentOfKey sw text (headOf (c .value) .key) ≡ some k)
-  unfolding kindOf kindNumber element childrenOf Keyed
-  child-keyed n i (leaf h s) c q o d = let z = scalar-high s in absurd (omega arith)
-  child-keyed n i (branch h Object f) c q o d = let K = object-keys n h f q in each-keyed sw text f (K .0) i (suc n) c (K .1) d
-  child-keyed n i (branch h Array f) c q o d = absurd (omega arith)
-  child-keyed n i (branch h Tuple f) c q o d = absurd (omega arith)
+  module _ (n : ℕ) (t : Tree) (q : nodeAt tree n ≡ some t) (o : kindOf t ≡ 1) where
+    -- every one of them has a key, and its key has a content
+    pub child-keyed : (i : ℕ) (c : Numbered) → element i n t ≡ some c → (k : List ℕ) × (contentOfKey sw text (headOf (c .value) .key) ≡ some k)
+    unfolding element
+    child-keyed i c d = let K = members n t q o in each-keyed sw text (childrenOf t) (K .0) i (suc n) c (K .1) d
 
-  -- a child of an object that has this key is the member with this key
-  pub only-member : (n i : ℕ) (t : Tree) (c : Numbered) (key : List ℕ) → nodeAt tree n ≡ some t → kindOf t ≡ 1 → element i n t ≡ some c
-      → hasKey sw text key (c .value) ≡ true → member sw text key n t ≡ some c
-  unfolding kindOf kindNumber element member childrenOf Keyed
-  only-member n i (leaf h s) c key q o d has = let z = scalar-high s in absurd (omega arith)
-  only-member n i (branch h Object f) c key q o d has =
-      let K = object-keys n h f q in
-      first-is sw text key c has f (K .0) i (suc n) (K .1) (K .2) d
-  only-member n i (branch h Array f) c key q o d has = absurd (omega arith)
-  only-member n i (branch h Tuple f) c key q o d has = absurd (omega arith)
+    -- one that has this key is the member with this key
+    pub only-member : (i : ℕ) (c : Numbered) (key : List ℕ) → element i n t ≡ some c → hasKey sw text key (c .value) ≡ true → member sw text key n t ≡ some c
+    unfolding element member
+    only-member i c key d has = let K = members n t q o in first-is sw text key (childrenOf t) (K .0) i (suc n) c (K .1) (K .2) d has
+
+    -- and two that have it are one
+    pub same-member : (i j : ℕ) (c d : Numbered) (key : List ℕ) → element i n t ≡ some c → element j n t ≡ some d → hasKey sw text key (c .value) ≡ true
+        → hasKey sw text key (d .value) ≡ true → i ≡ j
+    unfolding element
+    same-member i j c d key x y p r = let K = members n t q o in same-index sw text key (childrenOf t) (K .0) i j (suc n) c d (K .1) (K .2) x y p r

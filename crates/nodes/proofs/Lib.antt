@@ -3,7 +3,8 @@
 pub mod WordLaws
 pub mod WalkLaws
 pub mod NodeLaws
-pub mod SaysLaws
+pub mod ParentLaws
+pub mod ContentLaws
 pub mod ChildLaws
 pub mod TextLaws
 pub mod FedLaws

@@ -7,17 +7,17 @@ use native.Mathlib.Nat.{add-zero}
 use native.Mathlib.Decide.{decLt}
 use native.Mathlib.Omega.{arith}
 use mathlib.Core.Bool.{Bool, true, false, cond}
-use mathlib.Core.Option.{none, some}
+use mathlib.Core.Option.{some}
 use mathlib.Core.List.{List}
 use lib.ListN.{length, getD, replicate, length-append}
 use borrow.Author.Tests.{lt-ltb, le-ltb}
 use Rattle.reader.specs.Tree.{Tree, leaf, branch, Forest, nil, cons, size, sizes, count, rows, padded, noParent}
 use Rattle.reader.specs.Syntax.{Outcome, taken, refused}
-use Rattle.reader.specs.Reading.{tableOf, nodeCount}
+use Rattle.reader.specs.Reading.{tableOf, wordOf, nodeCount}
 use Rattle.reader.proofs.TableLaws.{length-rows}
 use Rattle.nodes.specs.Nodes.{nodeAt, nodeIn, nodeOf, childrenOf, Numbered, numbered, firstThat, nth}
 use Rattle.nodes.specs.Stands.{Node}
-use Rattle.nodes.proofs.WordLaws.{some-is, none-is, holds-left, size-pos}
+use Rattle.nodes.proofs.WordLaws.{some-is, none-is, words-left, size-pos, word-parent}
 use Rattle.nodes.proofs.WalkLaws.{Ahead, ahead-all, ahead-node, ahead-next}
 
 -- ---- the root, and every number below the count
@@ -30,9 +30,14 @@ root-node words t =
     let a = length-append (rows noParent 0 t) (replicate {A = ℕ} (words - length (rows noParent 0 t)) 0) in
     record {
       parent = noParent;
-      words = holds-left (tableOf words (taken t)) 0 (rows noParent 0 t) (replicate (words - length (rows noParent 0 t)) 0) (record { same = λ i h. ap (λ (k : ℕ). getD (tableOf words (taken t)) k 0) (let q : 0 + i ≡ i = omega arith in q) });
+      words = words-left (tableOf words (taken t)) 0 (rows noParent 0 t) (replicate (words - length (rows noParent 0 t)) 0) (record { same = λ i h. ap (λ (k : ℕ). getD (tableOf words (taken t)) k 0) (let q : 0 + i ≡ i = omega arith in q) });
       room = omega arith;
     }
+
+-- "4294967295 for the root"
+pub root-parent : (words : ℕ) (t : Tree) → wordOf (tableOf words (taken t)) 0 1 ≡ noParent
+unfolding root-node
+root-parent words t = word-parent (tableOf words (taken t)) 0 t (root-node words t)
 
 module _ (table : List ℕ) (u : Tree) where
   mutual

@@ -24,34 +24,35 @@ use Rattle.reader.specs.Content.{spanContent}
 use Rattle.reader.proofs.KeepLaws.{IntegerFits, Keeps, at-keeps}
 use Rattle.reader.proofs.ReplaceLaws.{outcome-taken}
 use Rattle.nodes.specs.Nodes.{contentOfKey}
-use Rattle.nodes.specs.Sound.{AllScalars, AllScalarsIn, NotBelow, InRange, Sound, Said, AllKeyed}
+use Rattle.nodes.specs.Sound.{IntegerInRange, PowerInRange, InRange}
+use Rattle.nodes.specs.InternalTrees.{AllScalars, AllScalarsIn, StringIs, AllKeyed}
 use Rattle.nodes.proofs.TextLaws.{TokenIn, TokensIn, cut-in, span-content}
 use Rattle.nodes.proofs.FedLaws.{FedBegins, Fed, FedTokens, All, OutcomeAll, run-all}
 
 -- ---- the numbers of a token
 
-in-range : (z : ℤ) → IntegerFits z → InRange z
-unfolding IntegerFits InRange
-in-range (pos n) h = omega arith
-in-range (negsuc n) h = omega arith
+integer-fits : (z : ℤ) → IntegerFits z → IntegerInRange z
+unfolding IntegerFits IntegerInRange
+integer-fits (pos n) h = omega arith
+integer-fits (negsuc n) h = omega arith
 
-not-below : (p : ℤ) → leZ (negsuc 399) p ≡ true → NotBelow p
-unfolding NotBelow
-not-below (pos n) e = tt
-not-below (negsuc n) e = let l = leb-true n 399 e in omega arith
+power-fits : (p : ℤ) → leZ (negsuc 399) p ≡ true → leZ p (pos 400) ≡ true → PowerInRange p
+unfolding PowerInRange
+power-fits (pos n) e g = leb-true n 400 g
+power-fits (negsuc n) e g = let l = leb-true n 399 e in omega arith
 
 module _ (sw : Switches) (s : List ℕ) where
   -- ---- what a token begins
 
   Fine : Scalar → Type 0
-  Fine v = Sound v × Said sw s v
+  Fine v = InRange v × StringIs sw s v
 
   fine-nothing : FedBegins Fine sw s nothing
   unfolding FedBegins
   fine-nothing = tt
 
   word-fine : (w : List ℕ) → FedBegins Fine sw s (wordBegins w)
-  unfolding wordBegins FedBegins Fine Sound Said
+  unfolding wordBegins FedBegins Fine InRange StringIs
   word-fine w =
       cond-both (FedBegins Fine sw s) (sameBytes w (ascii "true")) (λ _. (tt, tt))
       (λ _. cond-both (FedBegins Fine sw s) (sameBytes w (ascii "false")) (λ _. (tt, tt))
@@ -70,13 +71,13 @@ module _ (sw : Switches) (s : List ℕ) where
   Spanned span form = (c : List ℕ) → keyContent form ≡ some c → spanContent sw (span .start) (span .stop) s ≡ some c
 
   form-fine : (b : ℕ) (l : List ℕ) (more : ℕ) (span : Span) (form : Form) → Keeps b l more form → Spanned span form → FedBegins Fine sw s (begins span form)
-  unfolding begins keyContent Keeps FedBegins Fine Sound Said
+  unfolding begins keyContent Keeps FedBegins Fine InRange StringIs
   form-fine b l more span (L.mark x) h k = mark-fine x
   form-fine b l more span (L.word w) h k = word-fine w
   form-fine b l more span (L.text c) h k = (tt, k c refl)
   form-fine b l more span (L.bytes c) h k = (tt, k c refl)
-  form-fine b l more span (L.integer z) h k = (in-range z h, tt)
-  form-fine b l more span (L.decimal minus m p) h k = ((let l = h .most in omega arith, not-below p (h .least)), tt)
+  form-fine b l more span (L.integer z) h k = (integer-fits z h, tt)
+  form-fine b l more span (L.decimal minus m p) h k = ((h .most, power-fits p (h .least) (h .greatest)), tt)
 
   key-fine : (span : Span) (form : Form) → Spanned span form → (c : List ℕ) → keyOf form ≡ some c → contentOfKey sw s (some span) ≡ some c
   unfolding keyContent keyOf contentOfKey
@@ -133,14 +134,14 @@ module _ (sw : Switches) (words : ℕ) (s : List ℕ) (tree : Tree) (e : reading
       (run-all (Fine sw s) sw s (limitsOf words) false (cut sw 0 0 s) (tokens-fed sw s (w .0) taken-short (cut sw 0 0 s) (cut-in sw s 0 0 s refl)))
 
   -- every number is in its range
-  pub reading-sound : AllScalars Sound tree
+  pub reading-ranged : AllScalars InRange tree
   unfolding All Fine
-  reading-sound = scalars-map (Fine sw s) Sound (λ v h. h .0) tree (reading-fine .0)
+  reading-ranged = scalars-map (Fine sw s) InRange (λ v h. h .0) tree (reading-fine .0)
 
   -- every string has the content of its token's span
-  pub reading-said : AllScalars (Said sw s) tree
+  pub reading-strings : AllScalars (StringIs sw s) tree
   unfolding All Fine
-  reading-said = scalars-map (Fine sw s) (Said sw s) (λ v h. h .1) tree (reading-fine .0)
+  reading-strings = scalars-map (Fine sw s) (StringIs sw s) (λ v h. h .1) tree (reading-fine .0)
 
   -- the children of every object have keys, with different contents; others have none
   pub reading-keyed : AllKeyed sw s tree

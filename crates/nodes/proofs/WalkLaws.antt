@@ -12,24 +12,24 @@ use Rattle.reader.specs.Tree.{Head, Tree, leaf, branch, Forest, nil, cons, size
 use Rattle.reader.specs.Reading.{wordOf}
 use Rattle.reader.proofs.TableLaws.{length-rows}
 use Rattle.nodes.specs.Nodes.{childrenOf, Numbered, nth}
-use Rattle.nodes.specs.Stands.{Holds, Node}
-use Rattle.nodes.proofs.WordLaws.{some-is, none-is, holds-left, holds-right, size-pos, heads, word-in, word-parent, word-next}
+use Rattle.nodes.specs.Stands.{WordsAt, Node}
+use Rattle.nodes.proofs.WordLaws.{some-is, none-is, words-left, words-right, size-pos, heads, word-in, word-parent, word-next}
 
 -- the values f stand in the table side by side, the first as the node x: they are the last children of n
 pub record Ahead (table : List ℕ) (n x : ℕ) (f : Forest) : Type 0 where
-  pub words : Holds table (nodeWords * x) (rowsAll n x f)
+  pub words : WordsAt table (nodeWords * x) (rowsAll n x f)
   pub room : nodeWords * (x + sizes f) ≤ length table
   pub ends : x + sizes f ≡ wordOf table n 8
 
 -- ---- from a node to its children, and from a child to the next
 
-children-words : (table : List ℕ) (parent n : ℕ) (h : Head) (k : Kind) (f : Forest) → Holds table (nodeWords * n) (rows parent n (branch h k f))
-    → Holds table (nodeWords * suc n) (rowsAll n (suc n) f)
+children-words : (table : List ℕ) (parent n : ℕ) (h : Head) (k : Kind) (f : Forest) → WordsAt table (nodeWords * n) (rows parent n (branch h k f))
+    → WordsAt table (nodeWords * suc n) (rowsAll n (suc n) f)
 unfolding rows
 children-words table parent n h k f H =
     let l = ap (λ (x : List ℕ). length x) (heads (kindNumber k) parent h (suc n + sizes f)) in
-    holds-right table (nodeWords * n + 9) (nodeWords * suc n) (count f ∷ 0 ∷ 0 ∷ []) (rowsAll n (suc n) f) (omega arith)
-    (holds-right table (nodeWords * n) (nodeWords * n + 9) (headWords (kindNumber k) parent h (suc n + sizes f)) (count f ∷ 0 ∷ 0 ∷ rowsAll n (suc n) f) (omega arith) H)
+    words-right table (nodeWords * n + 9) (nodeWords * suc n) (count f ∷ 0 ∷ 0 ∷ []) (rowsAll n (suc n) f) (omega arith)
+    (words-right table (nodeWords * n) (nodeWords * n + 9) (headWords (kindNumber k) parent h (suc n + sizes f)) (count f ∷ 0 ∷ 0 ∷ rowsAll n (suc n) f) (omega arith) H)
 
 -- all children are ahead: the first is n + 1
 pub ahead-all : (table : List ℕ) (n : ℕ) (t : Tree) → Node table n t → Ahead table n (n + 1) (childrenOf t)
@@ -54,7 +54,7 @@ module _ (table : List ℕ) (n x : ℕ) (t : Tree) (f : Forest) (A : Ahead table
   unfolding rows size
   ahead-node =
       let r = A .room in
-      record { parent = n; words = holds-left table (nodeWords * x) (rows n x t) (rowsAll n (x + size t) f) (A .words); room = omega arith }
+      record { parent = n; words = words-left table (nodeWords * x) (rows n x t) (rowsAll n (x + size t) f) (A .words); room = omega arith }
 
   -- its word 1 is the parent's number
   pub ahead-parent : wordOf table x 1 ≡ n
@@ -69,7 +69,7 @@ module _ (table : List ℕ) (n x : ℕ) (t : Tree) (f : Forest) (A : Ahead table
       let e = A .ends in
       let l = length-rows n x t in
       record {
-        words = holds-right table (nodeWords * x) (nodeWords * (x + size t)) (rows n x t) (rowsAll n (x + size t) f) (omega arith) (A .words);
+        words = words-right table (nodeWords * x) (nodeWords * (x + size t)) (rows n x t) (rowsAll n (x + size t) f) (omega arith) (A .words);
         room = omega arith;
         ends = omega arith;
       }

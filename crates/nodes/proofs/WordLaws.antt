@@ -15,7 +15,7 @@ use Rattle.reader.specs.Tree.{Span, Head, Scalar, Tree, leaf, branch, headOf, s
 use Rattle.reader.specs.Reading.{wordOf}
 use Rattle.reader.proofs.TableLaws.{length-rows}
 use Rattle.nodes.specs.Nodes.{kindOf}
-use Rattle.nodes.specs.Stands.{Holds, Node}
+use Rattle.nodes.specs.Stands.{WordsAt, Node}
 
 -- ---- what there may be none of
 
@@ -28,11 +28,11 @@ none-is e = let v : _≡_ {A = ℕ} 0 1 = cc in absurd (omega arith)
 -- ---- words in a table
 
 module _ (table : List ℕ) where
-  pub holds-left : (at : ℕ) (a b : List ℕ) → Holds table at (a ++ b) → Holds table at a
-  holds-left at a b H = record { same = λ i h. H .same i (let l = length-append a b in omega arith) ∙ List·getD-append a b 0 i h }
+  pub words-left : (at : ℕ) (a b : List ℕ) → WordsAt table at (a ++ b) → WordsAt table at a
+  words-left at a b H = record { same = λ i h. H .same i (let l = length-append a b in omega arith) ∙ List·getD-append a b 0 i h }
 
-  pub holds-right : (at to : ℕ) (a b : List ℕ) → to ≡ at + length a → Holds table at (a ++ b) → Holds table to b
-  holds-right at to a b e H =
+  pub words-right : (at to : ℕ) (a b : List ℕ) → to ≡ at + length a → WordsAt table at (a ++ b) → WordsAt table to b
+  words-right at to a b e H =
       record {
         same =
             λ i h.

@@ -41,11 +41,7 @@ unfoldable pub childrenOf : Tree → Forest
 childrenOf (leaf head scalar) = nil
 childrenOf (branch head kind children) = children
 
--- ---- contents
-
--- the content of the string or key from `start` to before `stop` is these bytes
-unfoldable pub says : Switches → (text : List ℕ) → (start stop : ℕ) → (bytes : List ℕ) → Bool
-says sw text start stop bytes = sameContent (spanContent sw start stop text) (some bytes)
+-- ---- keys
 
 -- the content of a key, if there is one. The tree has a key's span only: its content is that of the span in the text.
 unfoldable pub contentOfKey : Switches → (text : List ℕ) → Option Span → Option (List ℕ)

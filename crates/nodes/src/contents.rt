@@ -2,16 +2,15 @@
 ghost use mathlib.Core.Path.{_≡_};
 ghost use mathlib.Core.Option.{some};
 ghost use Rattle.literals.specs.Content.{sameContent};
-ghost use Rattle.reader.specs.Content.{contentAlone};
-ghost use Rattle.nodes.specs.Nodes.{says};
+ghost use Rattle.reader.specs.Content.{contentAlone, spanContent};
 use lexer::token::content_is;
 use lexer::token::is_keyed;
 use literals::decoder::Body;
 use text::switches::Switches;
 use text::utf8::valid_front;
 
-// Whether a token alone has these bytes as its content. They are compared as a word's: a word is its own content.
-fn token_says(sw: Switches, token: &[u8], bytes: &[u8]) -> bool
+// Whether a token alone has these bytes as its content. They are handed over as a word: its content is its own bytes.
+fn token_content_is(sw: Switches, token: &[u8], bytes: &[u8]) -> bool
     ensures { λ r. ⌜ r ≡ sameContent (contentAlone sw (now (token .entry))) (some (now (bytes .entry))) ⌝ }
 {
     if valid_front(token) != token.len() {
@@ -24,8 +23,14 @@ fn token_says(sw: Switches, token: &[u8], bytes: &[u8]) -> bool
 }
 
 // Whether the content of the string or key from `start` to before `stop` is these bytes; a span that isn't one has no content.
-pub(crate) fn says_at(sw: Switches, text: &[u8], start: usize, stop: usize, bytes: &[u8]) -> bool
-    ensures { λ r. ⌜ r ≡ says sw (now (text .entry)) start stop (now (bytes .entry)) ⌝ }
+pub(crate) fn span_content_is(
+    sw: Switches,
+    text: &[u8],
+    start: usize,
+    stop: usize,
+    bytes: &[u8],
+) -> bool
+    ensures { λ r. ⌜ r ≡ sameContent (spanContent sw start stop (now (text .entry))) (some (now (bytes .entry))) ⌝ }
 {
     if stop < start {
         return false;
@@ -36,5 +41,5 @@ pub(crate) fn says_at(sw: Switches, text: &[u8], start: usize, stop: usize, byte
     if 65536 < stop - start {
         return false;
     }
-    token_says(sw, &text[start..stop], bytes)
+    token_content_is(sw, &text[start..stop], bytes)
 }

@@ -22,15 +22,15 @@ use Rattle.reader.specs.Syntax.{Outcome, taken, refused}
 use Rattle.reader.specs.Reading.{wordOf, tableOf, answerOf}
 use Rattle.reader.specs.declared.read.Reading.the-variants as R
 use Rattle.nodes.specs.Nodes.{kindOf, childrenOf, Numbered, numbered, nth, hasKey, member, element}
-use Rattle.nodes.specs.Answers.{childTold}
+use Rattle.nodes.specs.Answers.{childAnswer}
 use Rattle.nodes.specs.Stands.{Node, Stands, KindIs, MemberIs, ElementIs}
 use Rattle.nodes.specs.declared.children.Child.{Child}
 use Rattle.nodes.specs.declared.children.Child.the-variants as C
 use Rattle.nodes.proofs.WordLaws.{size-pos, scalar-high, word-next}
 use Rattle.nodes.proofs.NodeLaws.{Among, first-among, nth-among, child-stands, root-node}
-use Rattle.nodes.proofs.ChildLaws.{told-at, told-nothing}
-use Rattle.path.specs.Path.{pieces, steps, index, indexed, child, at, onward, follow, told, found}
-use Rattle.path.specs.Internal.{isStepByte, below, indexTold, IndexedIs, ChildIs, FollowIs}
+use Rattle.nodes.proofs.ChildLaws.{answer-at, answer-nothing}
+use Rattle.path.specs.Path.{pieces, steps, index, indexed, child, onward, follow, found}
+use Rattle.path.specs.Internal.{isStepByte, below, indexAnswer, IndexedIs, ChildIs, FollowIs}
 use Rattle.path.specs.declared.steps.Index.the-variants as I
 use Rattle.path.specs.declared.find.Found.{Found}
 use Rattle.path.specs.declared.find.Found.the-variants as F
@@ -57,37 +57,37 @@ node-size table n end t N e = e ∙ word-next table n t N
 pub node-room : (table : List ℕ) (n : ℕ) (t : Tree) → Node table n t → nodeWords * (n + size t) ≤ length table
 node-room table n t N = N .room
 
-index-is : (limit i : ℕ) (o : Option ℕ) → I.At i ≡ indexTold (below limit o) → o ≡ some i
-unfolding below indexTold
+index-is : (limit i : ℕ) (o : Option ℕ) → I.At i ≡ indexAnswer (below limit o) → o ≡ some i
+unfolding below indexAnswer
 index-is limit i none e = cc
 index-is limit i (some j) e = go (ltb j limit) e
   where
-    go : (b : Bool) → I.At i ≡ indexTold (cond b (some j) none) → some j ≡ some i
+    go : (b : Bool) → I.At i ≡ indexAnswer (cond b (some j) none) → some j ≡ some i
     go true q = cc
     go false q = cc
 
-index-past : (limit : ℕ) (o : Option ℕ) (P : Option ℕ → Type 0) → I.Nothing ≡ indexTold (below limit o) → P none → ((j : ℕ) → limit ≤ j → P (some j)) → P o
-unfolding below indexTold
+index-past : (limit : ℕ) (o : Option ℕ) (P : Option ℕ → Type 0) → I.Nothing ≡ indexAnswer (below limit o) → P none → ((j : ℕ) → limit ≤ j → P (some j)) → P o
+unfolding below indexAnswer
 index-past limit none P e a b = a
 index-past limit (some j) P e a b = go (ltb j limit) refl e
   where
-    go : (t : Bool) → ltb j limit ≡ t → I.Nothing ≡ indexTold (cond t (some j) none) → P (some j)
+    go : (t : Bool) → ltb j limit ≡ t → I.Nothing ≡ indexAnswer (cond t (some j) none) → P (some j)
     go true k q = let v : _≡_ {A = ℕ} 0 1 = cc in absurd (omega arith)
     go false k q = b j (ltb-false j limit k)
 
 module _ (step table : List ℕ) (n end limit : ℕ) (w : end ≡ wordOf table n 8) (l : limit ≡ end - n) where
-  pub indexed-at : (i : ℕ) (r : Child) → I.At i ≡ indexTold (below limit (index step)) → ElementIs i table n r → IndexedIs step table n r
+  pub indexed-at : (i : ℕ) (r : Child) → I.At i ≡ indexAnswer (below limit (index step)) → ElementIs i table n r → IndexedIs step table n r
   unfolding indexed
-  indexed-at i r e E = record { is = λ t N. E .is t N ∙ ap childTold (sym (ap (indexed n t) (index-is limit i (index step) e))) }
+  indexed-at i r e E = record { is = λ t N. E .is t N ∙ ap childAnswer (sym (ap (indexed n t) (index-is limit i (index step) e))) }
 
-  pub indexed-none : I.Nothing ≡ indexTold (below limit (index step)) → IndexedIs step table n C.Nothing
-  unfolding indexed childTold
+  pub indexed-none : I.Nothing ≡ indexAnswer (below limit (index step)) → IndexedIs step table n C.Nothing
+  unfolding indexed childAnswer
   indexed-none e =
       record {
         is =
             λ t N.
-            index-past limit (index step) (λ (o : Option ℕ). C.Nothing ≡ childTold (indexed n t o)) e refl
-            (λ j h. let z = node-size table n end t N w in sym (ap childTold (element-past j n t (omega arith))));
+            index-past limit (index step) (λ (o : Option ℕ). C.Nothing ≡ childAnswer (indexed n t o)) e refl
+            (λ j h. let z = node-size table n end t N w in sym (ap childAnswer (element-past j n t (omega arith))));
       }
 
 -- ---- one step, by the kind
@@ -116,15 +116,15 @@ module _ (sw : Switches) (text step : List ℕ) (n : ℕ) where
 
   module _ (table : List ℕ) (k : ℕ) (K : KindIs table n k) where
     pub child-object : (r : Child) → k ≡ 1 → MemberIs sw text step table n r → ChildIs sw text step table n r
-    child-object r e M = record { is = λ t N. M .is t N ∙ ap childTold (of-object t (let q = K .is t N in omega arith)) }
+    child-object r e M = record { is = λ t N. M .is t N ∙ ap childAnswer (of-object t (let q = K .is t N in omega arith)) }
 
     pub child-array : (r : Child) → 2 ≤ k → k ≤ 3 → IndexedIs step table n r → ChildIs sw text step table n r
-    child-array r e g M = record { is = λ t N. M .is t N ∙ ap childTold (of-array t (let q = K .is t N in omega arith) (let q = K .is t N in omega arith)) }
+    child-array r e g M = record { is = λ t N. M .is t N ∙ ap childAnswer (of-array t (let q = K .is t N in omega arith) (let q = K .is t N in omega arith)) }
 
     pub child-other : (k ≡ 1 → ⊥) → (k ≡ 2 → ⊥) → (k ≡ 3 → ⊥) → ChildIs sw text step table n C.Nothing
-    unfolding childTold
+    unfolding childAnswer
     child-other a b c =
-        record { is = λ t N. let q = K .is t N in ap childTold (of-other t (λ e. a (q ∙ e)) (λ e. b (q ∙ e)) (λ e. c (q ∙ e))) }
+        record { is = λ t N. let q = K .is t N in ap childAnswer (of-other t (λ e. a (q ∙ e)) (λ e. b (q ∙ e)) (λ e. c (q ∙ e))) }
 
   -- the child that a step leads to is one
   indexed-among : (t : Tree) (o : Option ℕ) (c : Numbered) → indexed n t o ≡ some c → Among (suc n) (childrenOf t) c
@@ -149,7 +149,7 @@ pub record Gone (sw : Switches) (text step table : List ℕ) (n : ℕ) (t : Tree
 module _ (sw : Switches) (text step table : List ℕ) (n : ℕ) (r : Child) (K : ChildIs sw text step table n r) where
   pub gone : (m : ℕ) → r ≡ C.At m → (t : Tree) → Node table n t → Gone sw text step table n t m
   gone m e t N =
-      let g = told-at (child sw text n t step) m (sym (K .is t N) ∙ e) in
+      let g = answer-at (child sw text n t step) m (sym (K .is t N) ∙ e) in
       record {
         value = g .0;
         is = g .1;
@@ -161,7 +161,7 @@ module _ (sw : Switches) (text step table : List ℕ) (n : ℕ) (r : Child) (K :
   gone-stands m e S = let G = gone m e (S .value) (S .node) in record { value = G .value; node = G .node }
 
   pub no-child : r ≡ C.Nothing → (t : Tree) → Node table n t → child sw text n t step ≡ none
-  no-child e t N = told-nothing (child sw text n t step) (sym (K .is t N) ∙ e)
+  no-child e t N = answer-nothing (child sw text n t step) (sym (K .is t N) ∙ e)
 
 -- ---- the path
 
@@ -185,14 +185,14 @@ module _ (sw : Switches) (text table path : List ℕ) (n k e : ℕ) (r : Child) 
       last-step path w ∙ ap (λ (x : List ℕ). x ∷ []) (sym (take-all e path l))
 
   pub follow-last : (m : ℕ) → r ≡ C.At m → e ≡ length path → FollowIs sw text path table n k (F.At m)
-  unfolding follow onward told
+  unfolding follow onward
   follow-last m g z =
       record {
         is =
             λ t N.
             let G = gone sw text (take e path) table n r K m g t N in
-            sym (ap (λ (ss : List (List ℕ)). told (follow sw text k n t ss)) (whole-path z)
-            ∙ ap (λ (o : Option Numbered). told (onward k o (λ (c : Numbered). at (c .number)))) (G .is));
+            sym (ap (λ (ss : List (List ℕ)). follow sw text k n t ss) (whole-path z)
+            ∙ ap (λ (o : Option Numbered). onward k o (λ (c : Numbered). F.At (c .number))) (G .is));
       }
 
   pub follow-next : (m : ℕ) (a : Found) → r ≡ C.At m → e < length path
@@ -205,27 +205,27 @@ module _ (sw : Switches) (text table path : List ℕ) (n k e : ℕ) (r : Child) 
             let G = gone sw text (take e path) table n r K m g t N in
             let rest = pieces (take (length path - (e + 1)) (drop (e + 1) path)) in
             A .is (G .value) (G .node)
-            ∙ ap (λ (j : ℕ). told (follow sw text j m (G .value) rest)) (add-one k)
-            ∙ sym (ap (λ (ss : List (List ℕ)). told (follow sw text k n t ss)) (split-path path e q h)
-            ∙ ap (λ (o : Option Numbered). told (onward k o (λ (c : Numbered). follow sw text (suc k) (c .number) (c .value) rest))) (G .is));
+            ∙ ap (λ (j : ℕ). follow sw text j m (G .value) rest) (add-one k)
+            ∙ sym (ap (λ (ss : List (List ℕ)). follow sw text k n t ss) (split-path path e q h)
+            ∙ ap (λ (o : Option Numbered). onward k o (λ (c : Numbered). follow sw text (suc k) (c .number) (c .value) rest)) (G .is));
       }
 
   pub follow-missing : r ≡ C.Nothing → FollowIs sw text path table n k (F.Refused 23 k)
-  unfolding follow onward told
+  unfolding follow onward
   follow-missing g = record { is = λ t N. sym (missing-by t (no-child sw text (take e path) table n r K g t N)) }
     where
-      missing-by : (t : Tree) → child sw text n t (take e path) ≡ none → told (follow sw text k n t (pieces path)) ≡ F.Refused 23 k
+      missing-by : (t : Tree) → child sw text n t (take e path) ≡ none → follow sw text k n t (pieces path) ≡ F.Refused 23 k
       missing-by t d =
           elim (decLt e (length path)) [
             | yes h ↦
                 let rest = pieces (take (length path - (e + 1)) (drop (e + 1) path)) in
-                ap (λ (ss : List (List ℕ)). told (follow sw text k n t ss)) (split-path path e q h)
-                ∙ ap (λ (o : Option Numbered). told (onward k o (λ (c : Numbered). follow sw text (suc k) (c .number) (c .value) rest))) d
+                ap (λ (ss : List (List ℕ)). follow sw text k n t ss) (split-path path e q h)
+                ∙ ap (λ (o : Option Numbered). onward k o (λ (c : Numbered). follow sw text (suc k) (c .number) (c .value) rest)) d
             | no h ↦
                 let w = front-le isStepByte path in
                 let z : e ≡ length path = omega arith in
-                ap (λ (ss : List (List ℕ)). told (follow sw text k n t ss)) (whole-path z)
-                ∙ ap (λ (o : Option Numbered). told (onward k o (λ (c : Numbered). at (c .number)))) d
+                ap (λ (ss : List (List ℕ)). follow sw text k n t ss) (whole-path z)
+                ∙ ap (λ (o : Option Numbered). onward k o (λ (c : Numbered). F.At (c .number))) d
           ]
 
 -- ---- the call
@@ -238,8 +238,8 @@ root-stands words (refused number place) table n w e = let v : _≡_ {A = ℕ} 0
 
 module _ (sw : Switches) (text path : List ℕ) where
   pub found-root : (o : Outcome) (n : ℕ) → answerOf o ≡ R.Taken n → length path ≡ 0 → F.At 0 ≡ found sw text path o
-  unfolding answerOf found steps told follow
-  found-root (taken tree) n e z = sym (ap (λ (ss : List (List ℕ)). told (follow sw text 0 0 tree ss)) (no-steps path z))
+  unfolding answerOf found steps follow
+  found-root (taken tree) n e z = sym (ap (λ (ss : List (List ℕ)). follow sw text 0 0 tree ss) (no-steps path z))
     where
       no-steps : (s : List ℕ) → length s ≡ 0 → steps s ≡ []
       no-steps [] l = refl
@@ -251,7 +251,7 @@ module _ (sw : Switches) (text path : List ℕ) where
   unfolding answerOf found steps pieces
   found-on words (taken tree) table n a w e z A =
       A .is tree (subst (λ (t : List ℕ). Node t 0 tree) (sym w) (root-node words tree))
-      ∙ ap (λ (ss : List (List ℕ)). told (follow sw text 0 0 tree ss)) (all-steps path z)
+      ∙ ap (λ (ss : List (List ℕ)). follow sw text 0 0 tree ss) (all-steps path z)
     where
       all-steps : (s : List ℕ) → (length s ≡ 0 → ⊥) → pieces s ≡ steps s
       all-steps [] l = absurd (l refl)

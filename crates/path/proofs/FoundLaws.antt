@@ -16,20 +16,20 @@ use Rattle.nodes.specs.Nodes.{nodeAt, Numbered}
 use Rattle.nodes.specs.Stands.{Stands}
 use Rattle.nodes.proofs.WordLaws.{size-pos}
 use Rattle.nodes.proofs.NodeLaws.{node-fits, node-stands, child-node, node-root}
-use Rattle.path.specs.Path.{steps, child, Way, at, missing, onward, follow, told, found}
+use Rattle.path.specs.Path.{steps, child, onward, follow, found}
 use Rattle.path.specs.declared.find.Found.{Found}
 use Rattle.path.specs.declared.find.Found.the-variants as F
 use Rattle.path.proofs.FollowLaws.{child-among}
 
--- of a tree with so many nodes: a node's number, or that of a step, with `left` steps from the step k on
-unfoldable pub Leads : (nodes k left : ℕ) → Way → Type 0
-Leads nodes k left (at n) = n < nodes
-Leads nodes k left (missing j) = (j < nodes) × (j < k + left)
+-- in a tree with so many nodes: to a node's number, or to 23 and the number of a step, with `left` steps from the step k on
+unfoldable pub Leads : (nodes k left : ℕ) → Found → Type 0
+Leads nodes k left (F.At n) = n < nodes
+Leads nodes k left (F.Refused number j) = (number ≡ 23) × (j < nodes) × (j < k + left)
 
-more-left : (nodes k left : ℕ) (w : Way) → Leads nodes (suc k) left w → Leads nodes k (suc left) w
+more-left : (nodes k left : ℕ) (a : Found) → Leads nodes (suc k) left a → Leads nodes k (suc left) a
 unfolding Leads
-more-left nodes k left (at n) h = h
-more-left nodes k left (missing j) h = (h .0, let l = h .1 in omega arith)
+more-left nodes k left (F.At n) h = h
+more-left nodes k left (F.Refused number j) h = (h .0, h .1, let l = h .2 in omega arith)
 
 module _ (sw : Switches) (text : List ℕ) (tree : Tree) where
   -- a child has a greater number than its parent, so at the step k the number is at least k
@@ -41,7 +41,7 @@ module _ (sw : Switches) (text : List ℕ) (tree : Tree) where
       by : (o : Option Numbered) → child sw text n t s ≡ o
           → ((c : Numbered) → nodeAt tree (c .number) ≡ some (c .value) → suc k ≤ c .number → Leads (size tree) (suc k) (length ss) (follow sw text (suc k) (c .number) (c .value) ss))
           → Leads (size tree) k (suc (length ss)) (onward k o (λ c. follow sw text (suc k) (c .number) (c .value) ss))
-      by none q go = let f = node-fits t tree n e in let p = size-pos t in (omega arith, omega arith)
+      by none q go = let f = node-fits t tree n e in let p = size-pos t in (refl, omega arith, omega arith)
       by (some c) q go = let A = child-among sw text s n t c q in let l = A .from in more-left (size tree) k (length ss) (follow sw text (suc k) (c .number) (c .value) ss) (go c (child-node tree n t c e A) (omega arith))
 
   pub found-leads : (path : List ℕ) → Leads (size tree) 0 (length (steps path)) (follow sw text 0 0 tree (steps path))
@@ -54,15 +54,15 @@ Fits : (nodes : ℕ) → Found → Type 0
 Fits nodes (F.At n) = n < nodes
 Fits nodes (F.Refused number place) = place ≤ 65536
 
-told-fits : (nodes left : ℕ) (w : Way) → nodes ≤ 4096 → Leads nodes 0 left w → Fits nodes (told w)
-unfolding told Leads Fits
-told-fits nodes left (at n) l h = h
-told-fits nodes left (missing j) l h = let b = h .0 in omega arith
+leads-fits : (nodes left : ℕ) (a : Found) → nodes ≤ 4096 → Leads nodes 0 left a → Fits nodes a
+unfolding Leads Fits
+leads-fits nodes left (F.At n) l h = h
+leads-fits nodes left (F.Refused number j) l h = let b = h .1 in omega arith
 
 found-by : (sw : Switches) (text path : List ℕ) (o : Outcome) → nodeCount o ≤ 4096 → PlaceWithin 65536 o → Fits (nodeCount o) (found sw text path o)
 unfolding found nodeCount PlaceWithin Fits
 found-by sw text path (taken tree) l p =
-    told-fits (size tree) (length (steps path)) (follow sw text 0 0 tree (steps path)) l (found-leads sw text tree path)
+    leads-fits (size tree) (length (steps path)) (follow sw text 0 0 tree (steps path)) l (found-leads sw text tree path)
 found-by sw text path (refused number place) l p = p
 
 module _ (sw : Switches) (words : ℕ) (text path : List ℕ) where

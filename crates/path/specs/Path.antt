@@ -2,7 +2,7 @@
 -- Assumes nothing.
 use Prim.Native.Nat.{ℕ, suc, _+_, _-_, _*_}
 use Prim.Native.Char.{code}
-use mathlib.Core.Bool.{Bool, cond, not}
+use mathlib.Core.Bool.{cond}
 use mathlib.Core.Option.{Option, none, some}
 use mathlib.Core.List.{List, [], _∷_}
 use Rattle.text.specs.declared.switches.Switches.{Switches}
@@ -16,7 +16,7 @@ use Rattle.path.specs.declared.find.Found.the-variants as F
 
 -- ---- steps
 
--- a byte before the first of the steps
+-- a byte before the first of the steps, of which there always is one
 unfoldable pub onFirst : ℕ → List (List ℕ) → List (List ℕ)
 onFirst b [] = (b ∷ []) ∷ []
 onFirst b (s ∷ ss) = (b ∷ s) ∷ ss
@@ -33,7 +33,7 @@ steps (b ∷ s) = pieces (b ∷ s)
 
 -- ---- an index
 
--- digits to the end, after those that make v
+-- the number that digits make, with those before them, which make v; none where another byte stands
 unfoldable pub digits : (v : ℕ) → List ℕ → Option ℕ
 digits v [] = some v
 digits v (b ∷ s) = cond (isDigit b) (digits (v * 10 + (b - code "0")) s) none
@@ -65,30 +65,21 @@ child sw text n (branch head Tuple children) step = indexed n (branch head Tuple
 
 -- ---- the path
 
--- where a path leads: to a node, or up to a step "that has no child to go to"
-pub data Way : Type 0 where
-  at : (node : ℕ) → Way
-  missing : (step : ℕ) → Way
-
--- on from the child, if there is one; k is the step's number
-unfoldable pub onward : (k : ℕ) → Option Numbered → (Numbered → Way) → Way
-onward k none go = missing k
+-- on from the child, if there is one: "or 23 and the number of the first step, from 0, that has no child to go to"; k is the step's number
+unfoldable pub onward : (k : ℕ) → Option Numbered → (Numbered → Found) → Found
+onward k none go = F.Refused 23 k
 onward k (some c) go = go c
 
 -- "Following a path takes one step off it each time": from the value with the number n, by the steps that are left, the first of which has
--- the number k
-unfoldable pub follow : Switches → (text : List ℕ) (k n : ℕ) → Tree → List (List ℕ) → Way
-follow sw text k n t [] = at n
+-- the number k. With none left, "the node's number"
+unfoldable pub follow : Switches → (text : List ℕ) (k n : ℕ) → Tree → List (List ℕ) → Found
+follow sw text k n t [] = F.At n
 follow sw text k n t (s ∷ ss) = onward k (child sw text n t s) (λ c. follow sw text (suc k) (c .number) (c .value) ss)
 
 -- ---- the call
 
--- the code's answer, src/find.rt: "the node's number, or 23 and the number of the first step, from 0, that has no child to go to"
-unfoldable pub told : Way → Found
-told (at n) = F.At n
-told (missing k) = F.Refused 23 k
-
--- "The call reads the text into the lent table itself, then answers": by what reading the text comes to
+-- "The call reads the text into the lent table itself, then answers": by what reading the text comes to. The answer is the code's own enum,
+-- src/find.rt: a node's number, or the number of a refusal with its place
 unfoldable pub found : Switches → (text path : List ℕ) → Outcome → Found
-found sw text path (taken tree) = told (follow sw text 0 0 tree (steps path))
+found sw text path (taken tree) = follow sw text 0 0 tree (steps path)
 found sw text path (refused number place) = F.Refused number place

@@ -3,9 +3,9 @@ ghost use mathlib.Core.Path.{_≡_};
 ghost use Prim.Native.Nat.{_≤_};
 ghost use Rattle.text.specs.Bytes.{front};
 ghost use Rattle.path.specs.Path.{index};
-ghost use Rattle.path.specs.Internal.{isStepByte, below, indexTold};
+ghost use Rattle.path.specs.Internal.{isStepByte, below, indexAnswer};
 
-// An index, or that a step isn't one that counts.
+// The index that a step says; or that it says none, or one that no child has.
 pub(crate) enum Index {
     At(usize),
     Nothing,
@@ -34,7 +34,7 @@ fn wide(b: u8) -> usize
 // The index that a step says, if it is below the limit.
 pub(crate) fn index_of(step: &[u8], limit: usize) -> Index
     requires { ⌜ limit ≤ 1152921504606846976 ⌝ }
-    ensures { λ r. ⌜ r ≡ indexTold (below limit (index (now (step .entry)))) ⌝ }
+    ensures { λ r. ⌜ r ≡ indexAnswer (below limit (index (now (step .entry)))) ⌝ }
 {
     if step.len() == 0 {
         return Index::Nothing;

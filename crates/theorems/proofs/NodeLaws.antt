@@ -1,10 +1,9 @@
 -- The nodes of a text that was taken: the claims of specs/Nodes.antt, by the laws of the crate `nodes`.
 -- Assumes nothing.
 use mathlib.Core.Path.{_≡_, refl, sym, ap, _∙_, subst}
-use Prim.Native.Nat.{ℕ, suc, _+_, _<_}
+use Prim.Native.Nat.{ℕ, zero, suc, _+_, _≤_, _<_}
 use native.Mathlib.Numerals.{add-one}
 use native.Mathlib.Omega.{arith}
-use mathlib.Core.Bool.{true}
 use mathlib.Core.Option.{Option, none, some}
 use mathlib.Core.List.{List}
 use lib.ListN.{getD}
@@ -12,25 +11,27 @@ use Rattle.text.specs.declared.switches.Switches.{Switches}
 use Rattle.text.proofs.SameLaws.{same-refl}
 use Rattle.literals.specs.Content.{sameContent}
 use Rattle.reader.specs.Tree as T
-use Rattle.reader.specs.Tree.{Span, Head, Scalar, Tree, leaf, Forest, nil, cons, headOf, size, sizes, scalarWords}
+use Rattle.reader.specs.Tree.{Span, Head, Scalar, Tree, leaf, branch, Forest, nil, cons, headOf, size, sizes, count, scalarWords}
 use Rattle.reader.specs.Reading.{reading, tableOf, wordOf}
 use Rattle.reader.specs.Content.{spanContent}
-use Rattle.nodes.specs.Nodes.{nodeOf, kindOf, childrenOf, Numbered, nth, contentOfKey, hasKey, element}
+use Rattle.nodes.specs.Nodes.{nodeOf, kindOf, childrenOf, Numbered, numbered, nth, contentOfKey, hasKey, element}
 use Rattle.nodes.specs.Stands.{Node}
-use Rattle.nodes.specs.Sound.{AllScalars, Sound, Said}
-use Rattle.nodes.proofs.WordLaws.{some-is, none-is, firstOf, secondOf, word-is, word-next, word-key, word-own}
+use Rattle.nodes.specs.Sound.{InRange}
+use Rattle.nodes.specs.InternalTrees.{AllScalars, StringIs}
+use Rattle.nodes.proofs.WordLaws.{some-is, none-is, firstOf, secondOf, ownWord, scalar-high, word-is, word-next, word-count, word-key, word-own}
 use Rattle.nodes.proofs.WalkLaws.{Ahead, ahead-all, ahead-node, ahead-parent, Nth, nth-ahead}
-use Rattle.nodes.proofs.NodeLaws.{nth-among, child-node, node-table, node-stands, node-count, node-taken}
-use Rattle.nodes.proofs.SoundLaws.{reading-sound, reading-said}
-use Rattle.nodes.proofs.KeyLaws.{scalars-node, child-keyed, only-member}
-use Rattle.theorems.specs.Nodes.{IsNode, Numbers, Row, Children, Strings, Keys, NodesNumbered, WordsStand, ChildrenFollow, StringsSaid, KeysDiffer, NumbersInRange}
+use Rattle.nodes.proofs.NodeLaws.{root-parent, nth-among, child-node, node-table, node-stands, node-count, node-taken}
+use Rattle.nodes.proofs.ParentLaws.{node-child}
+use Rattle.nodes.proofs.SoundLaws.{reading-ranged, reading-strings}
+use Rattle.nodes.proofs.KeyLaws.{scalars-node, child-keyed, only-member, same-member}
+use Rattle.theorems.specs.Nodes.{IsNode, Children, NodesNumbered, WordsStand, ChildrenFollow, ParentsNamed, StringsByWords, KeysDiffer, NumbersInRange}
 
 pub nodes-numbered : NodesNumbered
 unfolding NodesNumbered
 nodes-numbered sw words text =
     record {
       each = λ n h. let r = node-stands words n (reading sw words text) h in (r .0, r .1);
-      others = λ n t e. node-count n (reading sw words text) t e;
+      no-other = λ n t e. node-count n (reading sw words text) t e;
     }
 
 pub words-stand : WordsStand
@@ -46,10 +47,34 @@ unfolding nth
 first-number x nil c e = none-is e
 first-number x (cons t f) c e = ap (λ (d : Numbered). d .number) (sym (some-is e))
 
-no-more : (x : ℕ) (f : Forest) → nth 0 x f ≡ none → sizes f ≡ 0
+no-first : (x : ℕ) (f : Forest) → nth 0 x f ≡ none → sizes f ≡ 0
 unfolding nth sizes
-no-more x nil e = refl
-no-more x (cons t f) e = cc
+no-first x nil e = refl
+no-first x (cons t f) e = cc
+
+-- there are as many as are counted
+nth-some : (i x : ℕ) (f : Forest) → i < count f → (c : Numbered) × (nth i x f ≡ some c)
+unfolding nth count
+nth-some i x nil h = absurd (omega arith)
+nth-some zero x (cons t f) h = (numbered x t, refl)
+nth-some (suc i) x (cons t f) h = nth-some i (x + size t) f (omega arith)
+
+nth-none : (i x : ℕ) (f : Forest) → count f ≤ i → nth i x f ≡ none
+unfolding nth count
+nth-none i x nil h = refl
+nth-none zero x (cons t f) h = absurd (omega arith)
+nth-none (suc i) x (cons t f) h = nth-none i (x + size t) f (omega arith)
+
+-- word 9 of a container
+own-count : (t : Tree) → kindOf t ≤ 3 → ownWord t ≡ count (childrenOf t)
+unfolding kindOf ownWord childrenOf
+own-count (leaf h s) l = let z = scalar-high s in absurd (omega arith)
+own-count (branch h k f) l = refl
+
+size-by : (t : Tree) → size t ≡ suc (sizes (childrenOf t))
+unfolding size childrenOf
+size-by (leaf h s) = refl
+size-by (branch h k f) = refl
 
 module _ (sw : Switches) (words : ℕ) (text : List ℕ) (n : ℕ) (t : Tree) (e : IsNode sw words text n t) where
   abbrev table : List ℕ
@@ -82,11 +107,11 @@ module _ (sw : Switches) (words : ℕ) (text : List ℕ) (n : ℕ) (t : Tree) (e
   next-is : (i : ℕ) (c d : Numbered) → element i n t ≡ some c → element (i + 1) n t ≡ some d → d .number ≡ wordOf table (c .number) 8
   next-is i c d q p = first-number (c .number + size (c .value)) (place i c q .later) d (further i c (some d) q p) ∙ sym (behind i c q)
 
-  last-is : (i : ℕ) (c : Numbered) → element i n t ≡ some c → element (i + 1) n t ≡ none → wordOf table n 8 ≡ wordOf table (c .number) 8
+  last-is : (i : ℕ) (c : Numbered) → element i n t ≡ some c → element (i + 1) n t ≡ none → wordOf table (c .number) 8 ≡ wordOf table n 8
   unfolding sizes
   last-is i c q p =
       let r = place i c q in
-      let z = no-more (c .number + size (c .value)) (r .later) (further i c none q p) in
+      let z = no-first (c .number + size (c .value)) (r .later) (further i c none q p) in
       let a = r .ahead .ends in
       let b = behind i c q in
       omega arith
@@ -95,52 +120,70 @@ module _ (sw : Switches) (words : ℕ) (text : List ℕ) (n : ℕ) (t : Tree) (e
   unfolding element
   children-of =
       record {
-        nodes = child-is;
-        parent = λ i c q. let r = place i c q in ahead-parent table n (c .number) (c .value) (r .later) (r .ahead);
+        child-node = child-is;
+        child-parent = λ i c q. let r = place i c q in ahead-parent table n (c .number) (c .value) (r .later) (r .ahead);
         first = λ c q. first-number (suc n) (childrenOf t) c q ∙ sym (add-one n);
         next = next-is;
         last = last-is;
+        no-child = λ q.
+            let z = no-first (suc n) (childrenOf t) q in
+            let w = word-next table n t stands in
+            let y = size-by t in
+            omega arith;
+        counted = λ l i h. nth-some i (suc n) (childrenOf t) (let w = word-count table n t stands in let y = own-count t l in omega arith);
+        no-more = λ l i h. nth-none i (suc n) (childrenOf t) (let w = word-count table n t stands in let y = own-count t l in omega arith);
       }
 
 pub children-follow : ChildrenFollow
 unfolding ChildrenFollow
 children-follow sw words text n t e = children-of sw words text n t e
 
+pub parents-named : ParentsNamed
+unfolding ParentsNamed nodeOf
+parents-named sw words text =
+    record {
+      root = λ t e. let r = node-taken 0 (reading sw words text) t e in ap (λ o. wordOf (tableOf words o) 0 1) (r .1) ∙ root-parent words (r .0);
+      other = λ n t e h.
+          let r = node-taken n (reading sw words text) t e in
+          let c = node-child (r .0) n t (r .2) h in
+          (c .parent, c .value, c .index, ap (λ o. nodeOf o (c .parent)) (r .1) ∙ c .is-node, c .is-child);
+    }
+
 -- ---- contents, keys and numbers
 
 module _ (sw : Switches) (words : ℕ) (text : List ℕ) (n : ℕ) (h : Head) (s : Scalar) (e : IsNode sw words text n (leaf h s)) where
-  said : Said sw text s
+  string : StringIs sw text s
   unfolding AllScalars
-  said =
+  string =
       let r = node-taken n (reading sw words text) (leaf h s) e in
-      scalars-node (Said sw text) (r .0) (leaf h s) n (r .2) (reading-said sw words text (r .0) (r .1))
+      scalars-node (StringIs sw text) (r .0) (leaf h s) n (r .2) (reading-strings sw words text (r .0) (r .1))
 
-  sound : Sound s
+  ranged : InRange s
   unfolding AllScalars
-  sound =
+  ranged =
       let r = node-taken n (reading sw words text) (leaf h s) e in
-      scalars-node Sound (r .0) (leaf h s) n (r .2) (reading-sound sw words text (r .0) (r .1))
+      scalars-node InRange (r .0) (leaf h s) n (r .2) (reading-ranged sw words text (r .0) (r .1))
 
   own-word : (i : ℕ) → i < 3 → wordOf (tableOf words (reading sw words text)) n (9 + i) ≡ getD (scalarWords s) i 0
   own-word i l = word-own (tableOf words (reading sw words text)) n h s (node-table words n (reading sw words text) (leaf h s) e) i l
 
-pub strings-said : StringsSaid
-unfolding StringsSaid Said scalarWords
-strings-said sw words text =
+pub strings-by-words : StringsByWords
+unfolding StringsByWords StringIs scalarWords
+strings-by-words sw words text =
     record {
       text-content = λ n h token content e.
           let a = own-word sw words text n h (T.text token content) e 0 (omega arith) in
           let b = own-word sw words text n h (T.text token content) e 1 (omega arith) in
-          (λ i. spanContent sw (a i) (b i) text) ∙ said sw words text n h (T.text token content) e;
+          (λ i. spanContent sw (a i) (b i) text) ∙ string sw words text n h (T.text token content) e;
       bytes-content = λ n h token content e.
           let a = own-word sw words text n h (T.bytes token content) e 0 (omega arith) in
           let b = own-word sw words text n h (T.bytes token content) e 1 (omega arith) in
-          (λ i. spanContent sw (a i) (b i) text) ∙ said sw words text n h (T.bytes token content) e;
+          (λ i. spanContent sw (a i) (b i) text) ∙ string sw words text n h (T.bytes token content) e;
     }
 
 pub numbers-in-range : NumbersInRange
 unfolding NumbersInRange
-numbers-in-range sw words text n h s e = sound sw words text n h s e
+numbers-in-range sw words text n h s e = ranged sw words text n h s e
 
 -- words 4 and 5 name the key
 key-words : (sw : Switches) (text key table : List ℕ) (n : ℕ) (t : Tree) → Node table n t → contentOfKey sw text (headOf t .key) ≡ some key
@@ -160,11 +203,12 @@ keys-differ sw words text n t e o =
     let r = node-taken n (reading sw words text) t e in
     record {
       content = λ i c q.
-          let k = child-keyed sw words text (r .0) (r .1) n i t c (r .2) o q in
+          let k = child-keyed sw words text (r .0) (r .1) n t (r .2) o i c q in
           let N = node-table words (c .number) (reading sw words text) (c .value) (child-is sw words text n t e i c q) in (
             k .0,
             key-words sw text (k .0) (tableOf words (reading sw words text)) (c .number) (c .value) N (k .1),
             ap (λ p. sameContent p (some (k .0))) (k .1) ∙ sym (same-refl (k .0)),
           );
-      only = λ i c key q has. only-member sw words text (r .0) (r .1) n i t c key (r .2) o q has;
+      differ = λ i j c d key x y p q. same-member sw words text (r .0) (r .1) n t (r .2) o i j c d key x y p q;
+      only = λ i c key q has. only-member sw words text (r .0) (r .1) n t (r .2) o i c key q has;
     }

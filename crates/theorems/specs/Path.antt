@@ -1,5 +1,5 @@
--- Req 09, "Ask by path": the steps of a path and the indices in them, apart from the definitions that take them off; what the answer's
--- numbers are; and paths in one text, worked out by hand.
+-- Req 09, "Ask by path": which steps a path has and which bytes are an index, said by grammar and not by how they are taken off; what an
+-- answer's numbers are; and paths in some texts, worked out by hand.
 -- By its contract `find_edition` (path/src/find.rt) answers `found`, and `duper_find` (duper/src/lib.rt) the number of it.
 -- Assumes nothing.
 use mathlib.Core.Path.{_≡_}
@@ -13,8 +13,8 @@ use lib.ListN.{length}
 use Rattle.text.specs.declared.switches.Switches.{Switches}
 use Rattle.text.specs.Switches.{presentEdition}
 use Rattle.text.specs.Bytes.{ascii, is, between, isDigit, digitValue}
-use Rattle.reader.specs.Syntax.{Outcome, refused}
-use Rattle.reader.specs.Reading.{reading, nodeCount, tableOf}
+use Rattle.reader.specs.Syntax.{refused}
+use Rattle.reader.specs.Reading.{reading, nodeCount}
 use Rattle.path.specs.Path.{steps, index, found}
 use Rattle.path.specs.declared.find.Found.{Found}
 use Rattle.path.specs.declared.find.Found.the-variants as F
@@ -36,7 +36,7 @@ noDots (s ∷ ss) = every (λ b. not (is "." b)) s && noDots ss
 
 -- "A path is bytes, steps separated by `.`": these are one step or more, and with the separators between them they are the path
 pub record Separated (path : List ℕ) (ss : List (List ℕ)) : Type 0 where
-  pub some : 0 < length ss
+  pub not-none : 0 < length ss
   pub whole : joined ss ≡ path
   pub apart : noDots ss ≡ true
 
@@ -69,32 +69,31 @@ module _ (sw : Switches) (words : ℕ) (text path : List ℕ) where
   abbrev pub answer : Found
   answer = found sw text path (reading sw words text)
 
-  pub record Answer : Type 0 where
+  pub record PathAnswer : Type 0 where
     -- "the node's number": a node of the text
     pub node : (n : ℕ) → answer ≡ F.At n → n < nodeCount (reading sw words text)
-    -- "or 23 and the number of the first step, from 0": a step of the path; the text was taken
+    -- "or 23 and the number of the first step, from 0": a step of the path, and one whose number is below the node count, so that it packs; a
+    -- refused text has no nodes, so it was taken
     pub step : (k : ℕ) → answer ≡ F.Refused 23 k → (k < length (steps path)) × (k < nodeCount (reading sw words text))
     -- any other refusal is the reading's, one of 1 to 10
     pub refusal : (number place : ℕ) → answer ≡ F.Refused number place → (number ≡ 23 → ⊥)
         → (reading sw words text ≡ refused number place) × (1 ≤ number) × (number ≤ 10)
 
 unfoldable pub PathsAnswered : Type 0
-PathsAnswered = (sw : Switches) (words : ℕ) (text path : List ℕ) → Answer sw words text path
+PathsAnswered = (sw : Switches) (words : ℕ) (text path : List ℕ) → PathAnswer sw words text path
 
--- a call of `duper_find` with a table of so many words: the number that it answered, and all that the table then held
+-- a call of `duper_find` with a table of so many words: the number that it answered
 pub record FindCall (words : ℕ) (text path : List ℕ) : Type 0 where
   pub number : ℕ
-  pub table : List ℕ
   pub number-is : number ≡ foundNumber (answer presentEdition words text path)
-  pub table-is : table ≡ tableOf words (reading presentEdition words text)
 
--- the number tells the answer: below 4294967296 it is a node's, else it is a refusal times 4294967296 plus its place
-pub record Told (words : ℕ) (text path : List ℕ) (a : FindCall words text path) : Type 0 where
+-- the number says which answer it is: below 4294967296 it is a node's, else it is a refusal times 4294967296 plus its place
+pub record Unpacked (words : ℕ) (text path : List ℕ) (a : FindCall words text path) : Type 0 where
   pub node : a .number < 4294967296 → answer presentEdition words text path ≡ F.At (a .number)
   pub refusal : 4294967296 ≤ a .number → answer presentEdition words text path ≡ F.Refused (a .number / 4294967296) (a .number % 4294967296)
 
-unfoldable pub PathsTold : Type 0
-PathsTold = (words : ℕ) (text path : List ℕ) (a : FindCall words text path) → Told words text path a
+unfoldable pub PathsUnpacked : Type 0
+PathsUnpacked = (words : ℕ) (text path : List ℕ) (a : FindCall words text path) → Unpacked words text path a
 
 -- ---- examples
 
@@ -106,6 +105,14 @@ example = "S({balls:[1,A({height_mm:7}),(null,\"x\")],\"a\\x2Eb\":{},\"\":{\"\":
 -- in that text, with room for twelve nodes
 abbrev pub asked : String → Found
 asked path = answer presentEdition 144 (ascii example) (ascii path)
+
+-- any path in any text, with room for twenty nodes
+abbrev pub asked-in : (text path : List ℕ) → Found
+asked-in text path = answer presentEdition 240 text path
+
+-- an array: nodes 1 to 10 are numbers, 11 is the object, 12 and 13 its members
+abbrev pub many : List ℕ
+many = ascii "[0,1,2,3,4,5,6,7,8,9,{r\"x y\":1,\"\\u00e9\":2}]"
 
 pub record PathsByHand : Type 0 where
   -- "the empty path is the root"
@@ -147,6 +154,12 @@ pub record PathsByHand : Type 0 where
   pub two-dots : asked ".." ≡ F.Refused 23 2
   pub dot-first : asked ".balls" ≡ F.Refused 23 1
   pub dot-last : asked "balls." ≡ F.Refused 23 1
+  -- an index of two digits, a key in a raw string and one with an escape of two bytes, asked for by these bytes
+  pub two-digits : asked-in many (ascii "10") ≡ F.At 11
+  pub raw-key : asked-in many (ascii "10.x y") ≡ F.At 12
+  pub beyond-ascii : asked-in many (ascii "10." ++ (0xC3 ∷ 0xA9 ∷ [])) ≡ F.At 13
+  pub not-utf8 : asked-in many (ascii "10." ++ (0xE9 ∷ [])) ≡ F.Refused 23 1
+  pub tuple-at-the-root : asked-in (ascii "(5)") (ascii "0") ≡ F.At 1
   -- "The call reads the text into the lent table itself": a refusal of the reading goes first
   pub refused-text : answer presentEdition 144 (ascii "[,,]") (ascii "0") ≡ F.Refused 7 2
   pub no-room : answer presentEdition 12 (ascii "[1]") [] ≡ F.Refused 10 1

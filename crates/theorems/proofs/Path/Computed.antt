@@ -3,11 +3,11 @@
 use mathlib.Core.Path.{refl}
 use Rattle.reader.proofs.Computing.{readings}
 use Rattle.nodes.specs.Nodes.{childrenOf, firstThat, nth, contentOfKey, hasKey, member, element}
-use Rattle.path.specs.Path.{onFirst, pieces, steps, digits, alone, index, indexed, child, onward, follow, told, found}
+use Rattle.path.specs.Path.{onFirst, pieces, steps, digits, alone, index, indexed, child, onward, follow, found}
 use Rattle.theorems.specs.Path.{PathsByHand}
 
 pub paths-by-hand : PathsByHand
-unfolding readings childrenOf firstThat nth contentOfKey hasKey member element onFirst pieces steps digits alone index indexed child onward follow told found
+unfolding readings childrenOf firstThat nth contentOfKey hasKey member element onFirst pieces steps digits alone index indexed child onward follow found
 paths-by-hand =
     record {
       root = refl;
@@ -42,6 +42,11 @@ paths-by-hand =
       two-dots = refl;
       dot-first = refl;
       dot-last = refl;
+      two-digits = refl;
+      raw-key = refl;
+      beyond-ascii = refl;
+      not-utf8 = refl;
+      tuple-at-the-root = refl;
       refused-text = refl;
       no-room = refl;
     }

@@ -1,10 +1,10 @@
 -- "a decimal index from 0 without leading zeros": a step says the number that its digits make, and nothing else does.
 -- Assumes nothing.
 use mathlib.Core.Path.{_≡_, refl, sym, ap, _∙_, subst}
-use Prim.Native.Nat.{ℕ, _+_, _-_, _*_, _≤_, _<_}
+use Prim.Native.Nat.{ℕ, _+_, _-_, _*_, _<_}
 use Prim.Native.Char.{code}
 use native.Mathlib.Omega.{arith}
-use mathlib.Core.Bool.{Bool, true, false, cond, true≢false}
+use mathlib.Core.Bool.{Bool, true, false, cond}
 use mathlib.Core.Option.{Option, none, some}
 use mathlib.Core.List.{List, [], _∷_, _++_, append-assoc, append-nil}
 use lib.Dec.{leb}
@@ -13,7 +13,7 @@ use Rattle.text.specs.Bytes.{is, between, isDigit, digitValue}
 use Rattle.text.proofs.Choice.{and-left, and-right, cond-case, cond-true}
 use Rattle.path.specs.Path.{digits, alone, index}
 use Rattle.nodes.proofs.WordLaws.{some-is, none-is}
-use Rattle.theorems.specs.Path.{Decimal, nought, digit, further, IndexOf, IndicesRead}
+use Rattle.theorems.specs.Path.{Decimal, nought, digit, further, IndicesRead}
 
 -- ---- digits
 

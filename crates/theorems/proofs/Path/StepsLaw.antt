@@ -4,9 +4,8 @@ use mathlib.Core.Path.{_≡_, refl, sym, ap, _∙_, subst}
 use Prim.Native.Nat.{ℕ, _<_}
 use Prim.Native.Char.{code}
 use native.Mathlib.Omega.{arith}
-use mathlib.Core.Bool.{Bool, true, false, not, cond, _&&_}
+use mathlib.Core.Bool.{Bool, true, false, not, cond}
 use mathlib.Core.List.{List, [], _∷_, _++_}
-use lib.Dec.{eqb}
 use lib.ListN.{length}
 use borrow.Author.Tests.{eqb-true}
 use Rattle.text.specs.Bytes.{is}
@@ -43,20 +42,20 @@ empty-joined (s ∷ ss) h = refl
 
 pieces-separated : (s : List ℕ) → Separated s (pieces s)
 unfolding pieces joined noDots every
-pieces-separated [] = record { some = omega arith; whole = refl; apart = refl }
+pieces-separated [] = record { not-none = omega arith; whole = refl; apart = refl }
 pieces-separated (b ∷ s) = by (is "." b) refl (pieces-separated s)
   where
     by : (t : Bool) → is "." b ≡ t → Separated s (pieces s) → Separated (b ∷ s) (cond t ([] ∷ pieces s) (onFirst b (pieces s)))
     by true e P =
         record {
-          some = omega arith;
-          whole = empty-joined (pieces s) (P .some) ∙ (λ i. sym (eqb-true b (code ".") e) i ∷ P .whole i);
+          not-none = omega arith;
+          whole = empty-joined (pieces s) (P .not-none) ∙ (λ i. sym (eqb-true b (code ".") e) i ∷ P .whole i);
           apart = P .apart;
         }
     by false e P =
         record {
-          some = front-some b (pieces s);
-          whole = front-joined b (pieces s) (P .some) ∙ ap (λ (l : List ℕ). b ∷ l) (P .whole);
+          not-none = front-some b (pieces s);
+          whole = front-joined b (pieces s) (P .not-none) ∙ ap (λ (l : List ℕ). b ∷ l) (P .whole);
           apart = front-apart b (pieces s) e (P .apart);
         }
 
@@ -103,5 +102,5 @@ steps-of =
     record {
       of-empty = refl;
       separated = λ path h. subst (Separated path) (pieces-steps path h) (pieces-separated path);
-      only = λ path h ss S. sym (pieces-joined ss (S .some) (S .apart)) ∙ ap pieces (S .whole) ∙ pieces-steps path h;
+      only = λ path h ss S. sym (pieces-joined ss (S .not-none) (S .apart)) ∙ ap pieces (S .whole) ∙ pieces-steps path h;
     }

@@ -11,8 +11,6 @@ use Rattle.nodes.proofs.children.find_element.Reads as reads
 use Rattle.nodes.proofs.children.find_element.Lts as lts
 use Rattle.nodes.proofs.words.word_of.Reads as word-of-reads
 
-
-
 abbrev Inv-loop : tie.InvT-loop
 Inv-loop table n i end left₀ x₀ left x = ElementWalk i table n left x
 

@@ -9,10 +9,8 @@ use Rattle.nodes.proofs.children.find_member.Statement.{statement}
 use Rattle.nodes.proofs.children.find_member.Tie as tie
 use Rattle.nodes.proofs.children.find_member.Reads as reads
 use Rattle.nodes.proofs.children.find_member.Lts as lts
-use Rattle.nodes.proofs.contents.says_at.Reads as says-at-reads
+use Rattle.nodes.proofs.contents.span_content_is.Reads as span-content-is-reads
 use Rattle.nodes.proofs.words.word_of.Reads as word-of-reads
-
-
 
 abbrev Inv-loop : tie.InvT-loop
 Inv-loop sw text table n key end x₀ x = MemberWalk sw text key table n x
@@ -35,11 +33,11 @@ word-of-requires-2 c κs = walk-word _ _ _ _ _ _ _ _ (c .before .loop .inv .of (
 word-of-requires-3 : tie.Need-word-of-requires-3 Inv-loop μ-loop
 word-of-requires-3 c κs = walk-word _ _ _ _ _ _ _ _ (c .before .before .loop .inv .of (c .before .before .before .before .before .before .before .pre .value) (c .before .before .before .before .before .before .before .pre .node)) (c .before .before .before .word-of .ensures) (omega arith) (omega arith)
 
-says-at-requires : tie.Need-says-at-requires Inv-loop μ-loop
-says-at-requires c κs = search needs
+span-content-is-requires : tie.Need-span-content-is-requires Inv-loop μ-loop
+span-content-is-requires c κs = search needs
 
 returns : tie.Need-returns Inv-loop μ-loop
-returns c = member-hit _ _ _ _ _ _ _ _ _ _ (c .before .before .before .before .before .loop .inv) (c .before .before .before .before .before .before .word-of .ensures) (omega arith) (c .before .before .before .word-of2 .ensures) (c .before .before .word-of3 .ensures) (c .before .says-at .ensures) (c .if1 .taken)
+returns c = member-hit _ _ _ _ _ _ _ _ _ _ (c .before .before .before .before .before .loop .inv) (c .before .before .before .before .before .before .word-of .ensures) (omega arith) (c .before .before .before .word-of2 .ensures) (c .before .before .word-of3 .ensures) (c .before .span-content-is .ensures) (c .if1 .taken)
 
 word-of-requires-4 : tie.Need-word-of-requires-4 Inv-loop μ-loop
 word-of-requires-4 c κs = walk-word _ _ _ _ _ _ _ _ (c .before .before .before .before .before .loop .inv .of (c .before .before .before .before .before .before .before .before .before .before .pre .value) (c .before .before .before .before .before .before .before .before .before .before .pre .node)) (c .before .before .before .before .before .before .word-of .ensures) (omega arith) (omega arith)
@@ -48,7 +46,7 @@ loop-less : tie.Need-loop-less Inv-loop μ-loop
 loop-less c = let l = walk-less _ _ _ _ _ _ _ _ (c .before .before .before .before .before .before .loop .inv .of (c .before .before .before .before .before .before .before .before .before .before .before .pre .value) (c .before .before .before .before .before .before .before .before .before .before .before .pre .node)) (c .before .before .before .before .before .before .before .word-of .ensures) (omega arith) (c .word-of4 .ensures) in omega arith
 
 loop-again : tie.Need-loop-again Inv-loop μ-loop
-loop-again c = member-on _ _ _ _ _ _ _ _ _ _ _ (c .before .before .before .before .before .before .loop .inv) (c .before .before .before .before .before .before .before .word-of .ensures) (omega arith) (c .before .before .before .before .word-of2 .ensures) (c .before .before .before .word-of3 .ensures) (c .before .before .says-at .ensures) (c .before .if1 .left) (c .word-of4 .ensures)
+loop-again c = member-on _ _ _ _ _ _ _ _ _ _ _ (c .before .before .before .before .before .before .loop .inv) (c .before .before .before .before .before .before .before .word-of .ensures) (omega arith) (c .before .before .before .before .word-of2 .ensures) (c .before .before .before .word-of3 .ensures) (c .before .before .span-content-is .ensures) (c .before .if1 .left) (c .word-of4 .ensures)
 
 returns-2 : tie.Need-returns-2 Inv-loop μ-loop
 returns-2 c = member-end _ _ _ _ _ _ _ (c .before .loop .inv) (c .before .before .word-of .ensures) (omega arith)
@@ -64,7 +62,7 @@ find-member-spec =
     loop-holds
     word-of-requires-2
     word-of-requires-3
-    says-at-requires
+    span-content-is-requires
     returns
     word-of-requires-4
     loop-less

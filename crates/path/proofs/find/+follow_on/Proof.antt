@@ -19,8 +19,6 @@ use Rattle.path.proofs.steps.step_end.Reads as step-end-reads
 use Rattle.path.proofs.find.+follow_on.{statement}
 use Rattle.path.proofs.find.+follow_on.Tie.{close}
 
-
-
 abbrev μ-follow-on : Measures 3 follow-on-kinds.ps ℕ
 μ-follow-on κs a = length (pieces (a .1 .1 .1 .0 .now))
 

@@ -17,7 +17,6 @@ use Rattle.literals.specs.declared.decoder.Decoder.the-variants.{Letters}
 use Rattle.lexer.specs.Token.{tokenContent}
 use Rattle.lexer.specs.Internal.{hasContent, Keyed}
 use Rattle.reader.specs.Content.{part, isSpan, contentAlone, spanContent}
-use Rattle.nodes.specs.Nodes.{says}
 
 -- a word is its own content, whatever its bytes
 letters : (sw : Switches) (s : List ℕ) → decoded sw Letters s ≡ some s
@@ -68,31 +67,31 @@ module _ (sw : Switches) (token bytes : List ℕ) where
   token-compared r h e = e ∙ (λ i. sameContent (sym (is-utf8 h) i) (word-content sw bytes i))
 
 module _ (sw : Switches) (text : List ℕ) (start stop : ℕ) (bytes : List ℕ) where
-  off : isSpan start stop text ≡ false → false ≡ says sw text start stop bytes
-  unfolding says spanContent sameContent
+  off : isSpan start stop text ≡ false → false ≡ sameContent (spanContent sw start stop text) (some bytes)
+  unfolding spanContent sameContent
   off e = rw e
 
-  pub backwards : stop < start → false ≡ says sw text start stop bytes
+  pub backwards : stop < start → false ≡ sameContent (spanContent sw start stop text) (some bytes)
   unfolding isSpan
   backwards h = off (rw (lt-leb start stop h))
 
-  pub past : start ≤ stop → length text < stop → false ≡ says sw text start stop bytes
+  pub past : start ≤ stop → length text < stop → false ≡ sameContent (spanContent sw start stop text) (some bytes)
   unfolding isSpan
   past h k = off (rw (le-leb start stop h, lt-leb stop (length text) k))
 
-  pub long : start ≤ stop → stop ≤ length text → 65536 < stop - start → false ≡ says sw text start stop bytes
+  pub long : start ≤ stop → stop ≤ length text → 65536 < stop - start → false ≡ sameContent (spanContent sw start stop text) (some bytes)
   unfolding isSpan
   long h k l = off (rw (le-leb start stop h, le-leb stop (length text) k, lt-leb (stop - start) 65536 l))
 
   pub spanned : start ≤ stop → stop ≤ length text → stop - start ≤ 65536
-      → sameContent (contentAlone sw (part start stop text)) (some bytes) ≡ says sw text start stop bytes
-  unfolding says spanContent isSpan
+      → sameContent (contentAlone sw (part start stop text)) (some bytes) ≡ sameContent (spanContent sw start stop text) (some bytes)
+  unfolding spanContent isSpan
   spanned h k l = rw (le-leb start stop h, le-leb stop (length text) k, le-leb (stop - start) 65536 l)
 
 -- 0, 0 has no content
-pub nothing-said : (sw : Switches) (text bytes : List ℕ) → says sw text 0 0 bytes ≡ false
-unfolding says spanContent contentAlone tokenContent sameContent
-nothing-said sw text bytes = by (isSpan 0 0 text) (isUtf8 [])
+pub nothing-there : (sw : Switches) (text bytes : List ℕ) → sameContent (spanContent sw 0 0 text) (some bytes) ≡ false
+unfolding spanContent contentAlone tokenContent sameContent
+nothing-there sw text bytes = by (isSpan 0 0 text) (isUtf8 [])
   where
     by : (a b : Bool) → sameContent (cond a (cond b none none) none) (some bytes) ≡ false
     by true true = refl
