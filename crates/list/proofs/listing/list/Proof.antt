@@ -5,8 +5,8 @@ use Rattle.list.proofs.listing.list.Statement.{statement}
 use Rattle.list.proofs.listing.list.Tie as tie
 use Rattle.list.proofs.listing.list.Reads as reads
 use Rattle.list.proofs.listing.list.Lts as lts
+use Rattle.console.proofs.lines.refused.Reads as refused-reads
 use Rattle.list.proofs.listing.nodes.Reads as nodes-reads
-use Rattle.list.proofs.listing.refused.Reads as refused-reads
 use Rattle.reader.proofs.read.read.Reads as read-reads
 
 slice-aggregate-read : tie.Need-slice-aggregate-read

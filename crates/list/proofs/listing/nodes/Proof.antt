@@ -5,14 +5,14 @@ use Rattle.list.proofs.listing.nodes.Statement.{statement}
 use Rattle.list.proofs.listing.nodes.Tie as tie
 use Rattle.list.proofs.listing.nodes.Reads as reads
 use Rattle.list.proofs.listing.nodes.Lts as lts
-use Rattle.list.proofs.listing.node.Reads as node-reads
-use Rattle.os.proofs.fail.Reads as fail-reads
+use Rattle.console.proofs.lines.node.Reads as node-reads
+use Rattle.reader.proofs.rows.word.Reads as word-reads
 
 abbrev Inv-loop : tie.InvT-loop
-Inv-loop table count i₀ t5 i = i ≤ count
+Inv-loop table count i₀ i = i ≤ count
 
 abbrev μ-loop : tie.MeasureT-loop
-μ-loop table count i₀ t5 i = count - i
+μ-loop table count i₀ i = count - i
 
 loop-holds : tie.Need-loop-holds Inv-loop μ-loop
 loop-holds c = omega arith
@@ -20,38 +20,23 @@ loop-holds c = omega arith
 mul-at : tie.Need-mul-at Inv-loop μ-loop
 mul-at c = omega arith
 
-mul-node : tie.Need-mul-node Inv-loop μ-loop
-mul-node c = omega arith
+word-requires : tie.Need-word-requires Inv-loop μ-loop
+word-requires c κs = search needs
 
-shared-slice-read-node : tie.Need-shared-slice-read-node Inv-loop μ-loop
-shared-slice-read-node c = search needs
+add-word : tie.Need-add-word Inv-loop μ-loop
+add-word c = omega arith
 
-add-node : tie.Need-add-node Inv-loop μ-loop
-add-node c = omega arith
+word-requires-2 : tie.Need-word-requires-2 Inv-loop μ-loop
+word-requires-2 c κs = search needs
 
-mul-node-2 : tie.Need-mul-node-2 Inv-loop μ-loop
-mul-node-2 c = omega arith
+add-word-2 : tie.Need-add-word-2 Inv-loop μ-loop
+add-word-2 c = omega arith
 
-shared-slice-read-node-2 : tie.Need-shared-slice-read-node-2 Inv-loop μ-loop
-shared-slice-read-node-2 c = search needs
-
-add-node-2 : tie.Need-add-node-2 Inv-loop μ-loop
-add-node-2 c = omega arith
-
-mul-node-3 : tie.Need-mul-node-3 Inv-loop μ-loop
-mul-node-3 c = omega arith
-
-shared-slice-read-node-3 : tie.Need-shared-slice-read-node-3 Inv-loop μ-loop
-shared-slice-read-node-3 c = search needs
+word-requires-3 : tie.Need-word-requires-3 Inv-loop μ-loop
+word-requires-3 c κs = search needs
 
 node-requires : tie.Need-node-requires Inv-loop μ-loop
 node-requires c κs = search needs
-
-slice-aggregate-fail : tie.Need-slice-aggregate-fail Inv-loop μ-loop
-slice-aggregate-fail c = omega arith
-
-fail-requires : tie.Need-fail-requires Inv-loop μ-loop
-fail-requires c κs = search needs
 
 returns : tie.Need-returns Inv-loop μ-loop
 returns c = omega arith
@@ -76,17 +61,12 @@ nodes-spec =
     μ-loop
     loop-holds
     mul-at
-    mul-node
-    shared-slice-read-node
-    add-node
-    mul-node-2
-    shared-slice-read-node-2
-    add-node-2
-    mul-node-3
-    shared-slice-read-node-3
+    word-requires
+    add-word
+    word-requires-2
+    add-word-2
+    word-requires-3
     node-requires
-    slice-aggregate-fail
-    fail-requires
     returns
     add-i
     loop-less

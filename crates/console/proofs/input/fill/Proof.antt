@@ -4,10 +4,10 @@ use mathlib.Core.Path.{_≡_, sym}
 use Prim.Native.Nat.{_≤_, _-_}
 use lib.ListN.{length}
 use lib.Seq.{length-take-le}
-use Rattle.list.proofs.input.fill.Statement.{statement}
-use Rattle.list.proofs.input.fill.Tie as tie
-use Rattle.list.proofs.input.fill.Reads as reads
-use Rattle.list.proofs.input.fill.Lts as lts
+use Rattle.console.proofs.input.fill.Statement.{statement}
+use Rattle.console.proofs.input.fill.Tie as tie
+use Rattle.console.proofs.input.fill.Reads as reads
+use Rattle.console.proofs.input.fill.Lts as lts
 use Rattle.io.proofs.count.Reads as count-reads
 use Rattle.libc.proofs.read.Reads as read-reads
 

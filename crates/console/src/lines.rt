@@ -1,0 +1,34 @@
+// The lines that are printed. Where one can't be written, standard error says why, and the answer is false.
+use libc::STDOUT_FILENO;
+
+// A number and what stands after it; false where they can't be written.
+fn word(n: u64, after: &[u8]) -> bool {
+    io::print_decimal(STDOUT_FILENO, n) && io::write_all(STDOUT_FILENO, after)
+}
+
+// Whether a line is written; a failure is said here, right after the write, while errno still tells its reason.
+fn is_told(is_written: bool) -> bool {
+    if !is_written {
+        os::fail(b"standard output");
+    }
+    is_written
+}
+
+// The line of a node: its number, its kind, and where its value starts and ends.
+pub fn node(number: usize, kind: usize, start: usize, end: usize) -> bool {
+    is_told(
+        word(number as u64, b" ")
+            && word(kind as u64, b" ")
+            && word(start as u64, b" ")
+            && word(end as u64, b"\n"),
+    )
+}
+
+// The line of a refusal.
+pub fn refused(number: u8, place: usize) -> bool {
+    is_told(
+        io::write_all(STDOUT_FILENO, b"refused ")
+            && word(number as u64, b" ")
+            && word(place as u64, b"\n"),
+    )
+}
