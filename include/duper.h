@@ -1,6 +1,6 @@
 /*
- * The Duper reader, the content call, corrections and undo, and the reader's
- * UTF-8 check, from the archive libduper.a.
+ * The Duper reader, the content call, asking by path, corrections and undo, and
+ * the reader's UTF-8 check, from the archive libduper.a.
  *
  * Every call may be given any bytes, any lengths and any numbers: none of
  * them needs to be checked before. What the caller must see to:
@@ -10,9 +10,9 @@
  *     aligned for its element (to 4 bytes for the table);
  *   - a buffer that a call writes to must not overlap any other that the same
  *     call is given.
- *   - the thread has stack enough: 64 KiB for a reading, a content or a UTF-8
- *     check, 128 KiB for an undo, 256 KiB for a correction, beside the caller's
- *     own.
+ *   - the thread has stack enough: 64 KiB for a reading, a content, a path or a
+ *     UTF-8 check, 128 KiB for an undo, 256 KiB for a correction, beside the
+ *     caller's own.
  * Nothing is kept between calls, and no memory is taken from the heap. The
  * archive is for x86-64 Linux.
  *
@@ -37,7 +37,8 @@
  *   18  the journal's last entry is bad (undo)
  *   19  the span isn't one string or key (content call only)
  *   20  the content is longer than the output (content call only)
- * From 11 on the place is 0.
+ *   23  no child for a step of the path; the step's number, from 0 (path only)
+ * From 11 on the place is 0, but for 23. 21 and 22 are given by no call here.
  *
  * The table has twelve words for each node, nodes in order of their first
  * byte, the root being node 0; ends are one past the last byte:
@@ -95,6 +96,28 @@ uint64_t duper_read(const uint8_t *text, size_t text_len,
 uint64_t duper_content(const uint8_t *text, size_t text_len,
                        uint64_t start, uint64_t end,
                        uint8_t *out, size_t out_len);
+
+/*
+ * Reads the text into the table, as duper_read does, and follows a path from
+ * the root, such as balls.3.height_mm.
+ *
+ * A path is any bytes, of any length: steps with a dot between any two. The
+ * empty path has no step and leads to the root; any other has one step more
+ * than it has dots, and a step may be empty: a single dot is two empty steps.
+ * In an object a step is the content of a key, byte for byte, however the key
+ * is written. In an array or tuple it is an index from 0 in decimal digits,
+ * without leading zeros, and of any length; 00, +1, -0 and 1_0 are none, nor is
+ * an empty step. Other values have no children. Identifiers are ignored. A key
+ * with a dot in it can't be reached.
+ *
+ * Answers the node's number, from 0 to 4095; else the refusal times 4294967296
+ * plus its place: 1 to 10, the text isn't taken, and then every word of the
+ * table is 0; or 23 and the number of the first step, from 0, that has no child
+ * to go to. After 23, as after a success, the table is the reading.
+ */
+uint64_t duper_find(const uint8_t *text, size_t text_len,
+                    uint32_t *table, size_t table_len,
+                    const uint8_t *path, size_t path_len);
 
 /*
  * Replaces one value of a text. The text is the first used bytes of its

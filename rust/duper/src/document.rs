@@ -3,7 +3,7 @@
 use std::ops::Range;
 
 use crate::node::{nodes, Kind, Node, Nodes};
-use crate::{change, content, read, Answer, Refusal, MAX_NODES, MAX_TEXT, ROW};
+use crate::{change, content, path, read, Answer, Reason, Refusal, MAX_NODES, MAX_TEXT, ROW};
 
 /// How far a [`Document`] may grow by corrections.
 ///
@@ -281,6 +281,49 @@ impl Document {
     pub fn member(&self, object: Node<'_>, key: impl AsRef<[u8]>) -> Option<Node<'_>> {
         let key = key.as_ref();
         self.members(object).find(|(found, _)| found == key).map(|(_, node)| node)
+    }
+
+    /// The node that a path leads to from the root; see [`find`](crate::find)
+    /// for what a path is.
+    ///
+    /// ```
+    /// let season = r#"{
+    ///     rig: "north",
+    ///     balls: [{}, {}, {}, Ball({height_mm: 412.5})],
+    /// }"#;
+    /// let document = duper::Document::read(season)?;
+    /// let height = document.find("balls.3.height_mm")?;
+    /// assert_eq!(document.written(height), Some(&b"412.5"[..]));
+    /// # Ok::<(), duper::Refusal>(())
+    /// ```
+    ///
+    /// A step is a key's content, and not the key as it is written:
+    ///
+    /// ```
+    /// let document = duper::Document::read(r#"{"h\x65ight": 398}"#)?;
+    /// assert_eq!(document.find("height")?.integer(), Some(398));
+    /// assert!(document.find(r#""h\x65ight""#).is_err());
+    /// # Ok::<(), duper::Refusal>(())
+    /// ```
+    ///
+    /// The refusal is 23 if a step has no child to go to, and names the first
+    /// such step, counted from 0:
+    ///
+    /// ```
+    /// let document = duper::Document::read("{balls: [{height_mm: null}]}")?;
+    /// assert!(document.find("balls.0.height_mm")?.is_null());
+    /// let refusal = document.find("balls.1.height_mm").unwrap_err();
+    /// assert_eq!((refusal.number, refusal.step()), (23, Some(1)));
+    /// # Ok::<(), duper::Refusal>(())
+    /// ```
+    ///
+    /// The text is read for each call anew, into a table lent for it.
+    pub fn find(&self, path: impl AsRef<[u8]>) -> Result<Node<'_>, Refusal> {
+        let mut table = vec![0; self.table.len()];
+        let number = path::find(&self.text, &mut table, path.as_ref())?;
+        // It is a node of the text's reading, which the document's table is.
+        let none = Refusal { number: Reason::NoSuchNode.number(), place: 0 };
+        self.node(number).ok_or(none)
     }
 
     /// The content of a node's key; `None` if it has none.

@@ -1,7 +1,8 @@
 //! A safe wrapper over the Duper reader, which comes as a C archive.
 //!
-//! Five functions are the archive's own: [`read`] fills a lent table of nodes,
+//! Six functions are the archive's own: [`read`] fills a lent table of nodes,
 //! twelve words each; [`content`] writes the content of a string or key;
+//! [`find`] answers which node a path like `balls.3.height_mm` leads to;
 //! [`correct`] replaces a value in a lent text and notes in a lent journal what
 //! stood there; [`undo`] takes that back; [`utf8`](utf8()) is the reader's check
 //! of UTF-8 by itself. [`Document`] does the lending: it owns a text, its table
@@ -9,8 +10,8 @@
 //!
 //! Any bytes may be handed in. Each call answers or gives a [`Refusal`]; none
 //! panics and nothing has to be checked first. A thread needs stack enough, as
-//! the archive works there: 64 KiB for a reading, 256 KiB for a correction;
-//! Rust's own threads have 2 MiB. The archive is for x86-64 Linux.
+//! the archive works there: 64 KiB for a reading or a path, 256 KiB for a
+//! correction; Rust's own threads have 2 MiB. The archive is for x86-64 Linux.
 //!
 //! ```
 //! let mut document = duper::Document::read("[1, null]")?;
@@ -30,6 +31,7 @@
 mod change;
 mod document;
 mod node;
+mod path;
 mod refusal;
 mod sys;
 mod utf8;
@@ -37,6 +39,7 @@ mod utf8;
 pub use change::{correct, undo, Answer};
 pub use document::{Children, Document, Limits, Members};
 pub use node::{nodes, Decimal, Kind, Node, Nodes, Value};
+pub use path::find;
 pub use refusal::{Reason, Refusal};
 pub use utf8::{utf8, Utf8Check};
 

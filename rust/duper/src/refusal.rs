@@ -3,7 +3,8 @@
 use std::error::Error;
 use std::fmt;
 
-/// Why a call was refused: one of document 01's numbers, and its place.
+/// Why a call was refused: one of document 01's numbers, or 23 of document 02,
+/// and its place.
 ///
 /// As an error it says both in words:
 ///
@@ -17,7 +18,8 @@ use std::fmt;
 pub struct Refusal {
     /// The number, from 1 on.
     pub number: u32,
-    /// The place in the text, in bytes; 0 from number 11 on.
+    /// The place in the text, in bytes; 0 from number 11 on. Of 23 it is the
+    /// number of a step of the path; see [`step`](Refusal::step).
     pub place: u32,
 }
 
@@ -71,11 +73,14 @@ pub enum Reason {
     NotAString = 19,
     /// The content is longer than the output.
     ContentTooLong = 20,
+    /// A step of the path has no child to go to; the place is the step's
+    /// number, from 0.
+    NoChild = 23,
 }
 
 impl Reason {
     /// All reasons, by number.
-    const ALL: [Reason; 20] = [
+    const ALL: [Reason; 21] = [
         Reason::TextTooLong,
         Reason::NotUtf8,
         Reason::Malformed,
@@ -96,15 +101,15 @@ impl Reason {
         Reason::BadEntry,
         Reason::NotAString,
         Reason::ContentTooLong,
+        Reason::NoChild,
     ];
 
     /// The reason with this number, if there is one.
     pub fn from_number(number: u32) -> Option<Reason> {
-        let at = usize::try_from(number.checked_sub(1)?).ok()?;
-        Reason::ALL.get(at).copied()
+        Reason::ALL.into_iter().find(|reason| reason.number() == number)
     }
 
-    /// Its number, from 1 to 20.
+    /// Its number, from 1 to 20, or 23.
     pub fn number(self) -> u32 {
         self as u32
     }
@@ -132,6 +137,7 @@ impl Reason {
             Reason::BadEntry => "the journal's last entry is bad",
             Reason::NotAString => "the span is not one string or key",
             Reason::ContentTooLong => "the content is longer than the output",
+            Reason::NoChild => "a step of the path has no child to go to",
         }
     }
 }
@@ -160,6 +166,23 @@ impl Refusal {
     pub fn reason(&self) -> Option<Reason> {
         Reason::from_number(self.number)
     }
+
+    /// The number of the first step of the path, counted from 0, that has no
+    /// child to go to; `None` for a refusal other than 23.
+    ///
+    /// ```
+    /// let document = duper::Document::read("{balls: [{height_mm: 398}]}")?;
+    /// let refusal = document.find("balls.0.height").unwrap_err();
+    /// assert_eq!(refusal.step(), Some(2));
+    /// assert_eq!(
+    ///     refusal.to_string(),
+    ///     "a step of the path has no child to go to (refusal 23 at step 2, counted from 0)"
+    /// );
+    /// # Ok::<(), duper::Refusal>(())
+    /// ```
+    pub fn step(&self) -> Option<usize> {
+        (self.reason() == Some(Reason::NoChild)).then_some(self.place as usize)
+    }
 }
 
 impl fmt::Display for Refusal {
@@ -171,6 +194,8 @@ impl fmt::Display for Refusal {
         write!(f, " (refusal {}", self.number)?;
         if (1..=10).contains(&self.number) {
             write!(f, " at byte {}", self.place)?;
+        } else if let Some(step) = self.step() {
+            write!(f, " at step {step}, counted from 0")?;
         }
         f.write_str(")")
     }
@@ -196,19 +221,21 @@ mod tests {
     #[test]
     fn every_number_has_a_reason_of_its_own() {
         let mut words = std::collections::HashSet::new();
-        for number in 1..=20 {
+        for number in (1..=20).chain([23]) {
             let refusal = Refusal { number, place: 3 };
-            let reason = refusal.reason().expect("it is one of document 01's");
+            let reason = refusal.reason().expect("it is one of the documents'");
             assert_eq!(reason.number(), number);
             assert!(words.insert(reason.to_string()), "{reason}");
             let said = refusal.to_string();
             assert!(said.starts_with(&reason.to_string()), "{said}");
             assert!(said.contains(&format!("(refusal {number}")), "{said}");
             assert_eq!(said.contains(" at byte 3"), number <= 10, "{said}");
+            assert_eq!(said.contains(" at step 3"), number == 23, "{said}");
+            assert_eq!(refusal.step(), (number == 23).then_some(3));
         }
-        for number in [0, 21, u32::MAX] {
+        for number in [0, 21, 22, 24, u32::MAX] {
             let refusal = Refusal { number, place: 0 };
-            assert_eq!(refusal.reason(), None);
+            assert_eq!((refusal.reason(), refusal.step()), (None, None));
             assert!(refusal.to_string().contains(&number.to_string()));
         }
     }

@@ -17,6 +17,17 @@ extern "C" {
         out_len: usize,
     ) -> u64;
 
+    /// Answers the node's number, or refusal times 4294967296 plus place, which
+    /// for 23 is a step's number. `table_len` is in words.
+    fn duper_find(
+        text: *const u8,
+        text_len: usize,
+        table: *mut u32,
+        table_len: usize,
+        path: *const u8,
+        path_len: usize,
+    ) -> u64;
+
     /// Answers 0, or refusal times 4294967296 plus place; and in `answer` the
     /// node count and the lengths in use of text and journal.
     fn duper_correct(
@@ -77,6 +88,24 @@ pub(crate) fn content(
             end as u64,
             out.as_mut_ptr(),
             out.len(),
+        )
+    };
+    Refusal::from_answer(answer)
+}
+
+pub(crate) fn find(text: &[u8], table: &mut [u32], path: &[u8]) -> Result<usize, Refusal> {
+    // SAFETY: every pointer comes from a live slice, with that slice's own
+    // length; they are aligned and, for empty slices too, not null. Text and
+    // path are only read, so these two may overlap. The table is borrowed
+    // mutably for this call alone, so it overlaps neither. No pointer is kept.
+    let answer = unsafe {
+        duper_find(
+            text.as_ptr(),
+            text.len(),
+            table.as_mut_ptr(),
+            table.len(),
+            path.as_ptr(),
+            path.len(),
         )
     };
     Refusal::from_answer(answer)

@@ -62,6 +62,36 @@ fn a_utf8_check_needs_64_kib() {
 }
 
 #[test]
+fn a_path_needs_64_kib() {
+    with_stack(64, || {
+        let text = deepest();
+        // 32 steps lead to the innermost value, and it has no children.
+        let way = ["ab"; 32].join(".");
+        assert_eq!(duper::find(&text, &mut table(), way.as_bytes()), Ok(NODES - 1));
+        let further = ["ab"; 33].join(".");
+        let refusal = duper::find(&text, &mut table(), further.as_bytes()).expect_err("no child");
+        assert_eq!((refusal.number, refusal.step()), (23, Some(32)));
+    });
+}
+
+#[test]
+fn a_path_of_any_length_needs_no_more() {
+    // 32 objects, in each the empty key; of the steps beyond them none is taken.
+    let text = format!("{}1{}", r#"A({"":"#.repeat(32), "})".repeat(32)).into_bytes();
+    let dots = vec![b'.'; 70_000];
+    with_stack(64, move || {
+        let refusal = duper::find(&text, &mut table(), &dots).expect_err("no child");
+        assert_eq!((refusal.number, refusal.step()), (23, Some(32)));
+        assert_eq!(duper::find(&text, &mut table(), &dots[..31]), Ok(32));
+        let refusal = duper::find(&deepest(), &mut table(), &dots).expect_err("no child");
+        assert_eq!((refusal.number, refusal.step()), (23, Some(0)));
+        let nines = vec![b'9'; 70_000];
+        let refusal = duper::find(b"[1]", &mut table(), &nines).expect_err("no child");
+        assert_eq!((refusal.number, refusal.step()), (23, Some(0)));
+    });
+}
+
+#[test]
 fn a_correction_needs_256_kib_and_an_undo_128() {
     let text = deepest();
     let used = text.len();

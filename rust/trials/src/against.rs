@@ -1,7 +1,7 @@
 //! The comparison: whole tables, numbers and places, and contents with the
 //! output buffers compared whole; corrections and undos with all buffers
 //! compared whole; tables before and after insertions; both numbers of the UTF-8
-//! check.
+//! check; and the answers to paths, with the tables.
 
 use second::book::Call;
 use second::utf8::Checked;
@@ -9,6 +9,7 @@ use second::utf8::Checked;
 use crate::check::{self, Answer, ContentCall};
 use crate::editing::{self, OnTrial, Seen};
 use crate::eights;
+use crate::finding;
 use crate::histories::{History, Lent};
 use crate::insertions;
 use crate::random::Random;
@@ -88,6 +89,34 @@ fn duper_utf8(bytes: &[u8]) -> Checked {
 /// difference.
 pub fn checked(bytes: &[u8], seen: &mut eights::Seen) -> Result<(), String> {
     eights::trial(bytes, duper_utf8, seen)
+}
+
+/// `duper`'s answer to a path in document 01's terms.
+fn duper_find(text: &[u8], table: &mut [u32], path: &[u8]) -> Answer {
+    duper::find(text, table, path).map_err(|refusal| (refusal.number, u64::from(refusal.place)))
+}
+
+/// Holds a document, which lends a table of its own, against the answer to a
+/// path with a table of so many words.
+fn asked_document(text: &[u8], words: usize, path: &[u8], answer: Answer) -> Result<(), String> {
+    let document = duper::Document::read_within(text, words / 12);
+    let found = document.as_ref().map_err(|refusal| *refusal).and_then(|document| {
+        let node = document.find(path)?;
+        Ok((node.number(), Some(node) == document.node(node.number())))
+    });
+    let refused = |refusal: duper::Refusal| (refusal.number, u64::from(refusal.place));
+    match found.map_err(refused) {
+        Ok((number, true)) if answer == Ok(number) => Ok(()),
+        Err(refusal) if answer == Err(refusal) => Ok(()),
+        found => Err(format!("a document answers {found:?}, expected {answer:?}")),
+    }
+}
+
+/// Holds `duper`'s answers to paths against `second`'s and what is known; the
+/// error tells the difference.
+pub fn found(random: &mut Random, seen: &mut finding::Seen) -> Result<(), String> {
+    let on_trial = finding::OnTrial { finder: duper_find, further: asked_document };
+    finding::trial(random, on_trial, seen)
 }
 
 /// A document that may grow as far as buffers of these lengths let it.

@@ -9,9 +9,11 @@
 //! [`editing`] holds both against the book and `second`. [`annotated`] makes
 //! texts with spaces and comments to be inserted, and [`insertions`] holds a
 //! reader against what they may do to its table. [`bytes`] makes any bytes, and
-//! [`eights`] holds the UTF-8 check against `second`'s on them. `against`
-//! compares both readers and their calls; it needs the feature of that name, on
-//! unless turned off, since it links the archive.
+//! [`eights`] holds the UTF-8 check against `second`'s on them. [`trees`] makes
+//! documents of which every node is known, [`paths`] makes paths for them, and
+//! [`finding`] holds asking by path against what is known and `second`'s.
+//! `against` compares both readers and their calls; it needs the feature of that
+//! name, on unless turned off, since it links the archive.
 
 #![forbid(unsafe_code)]
 
@@ -23,10 +25,15 @@ pub mod check;
 pub mod editing;
 pub mod eights;
 pub mod exponents;
+#[cfg(test)]
+mod finders;
+pub mod finding;
 pub mod histories;
 pub mod insertions;
+pub mod paths;
 pub mod random;
 pub mod single;
 pub mod texts;
+pub mod trees;
 pub mod writer;
 pub mod zeros;

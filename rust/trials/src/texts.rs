@@ -291,7 +291,8 @@ fn odd_byte(random: &mut Random) -> u8 {
     }
 }
 
-fn damage(random: &mut Random, text: &mut Vec<u8>) {
+/// Changes a text in some place.
+pub(crate) fn damage(random: &mut Random, text: &mut Vec<u8>) {
     let at = random.below(text.len() + 1);
     match random.below(6) {
         0 | 1 if at < text.len() => text[at] = odd_byte(random),

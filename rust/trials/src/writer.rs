@@ -5,6 +5,7 @@
 use std::collections::HashSet;
 
 use crate::random::Random;
+use crate::trees::Tree;
 
 /// A row of the table.
 pub type Row = [u32; 12];
@@ -31,12 +32,15 @@ struct Writer<'r> {
     /// Whether the next exponent has thousands of leading zeros. That is so
     /// once in a text at the most, or it would soon be too long.
     many_zeros: bool,
+    /// Whether all is as short as can be: no spaces, comments or identifiers,
+    /// and every scalar is `0`.
+    terse: bool,
 }
 
 impl<'r> Writer<'r> {
     fn new(random: &'r mut Random, budget: usize, room: usize) -> Self {
         let many_zeros = random.one_in(200);
-        Writer { random, done: Written::default(), budget, room, many_zeros }
+        Writer { random, done: Written::default(), budget, room, many_zeros, terse: false }
     }
 }
 
@@ -60,6 +64,17 @@ pub fn write_value(random: &mut Random, nodes: usize, root: bool) -> Written {
     writer.done
 }
 
+/// Writes a text of this value, which must be a container; scalars may be any.
+/// `terse`: as short as can be.
+pub fn write_tree(random: &mut Random, tree: &Tree, terse: bool) -> Written {
+    let mut writer = Writer::new(random, 0, 0);
+    (writer.many_zeros, writer.terse) = (false, terse);
+    writer.gap();
+    writer.tree(None, (0, 0), tree);
+    writer.gap();
+    writer.done
+}
+
 /// One string alone, for replacements and content calls.
 pub fn write_string(random: &mut Random) -> (Vec<u8>, Vec<u8>) {
     let mut writer = Writer::new(random, 1, 32);
@@ -78,7 +93,7 @@ impl Writer<'_> {
 
     /// Spaces and comments, or mostly nothing.
     fn gap(&mut self) {
-        while self.random.one_in(4) {
+        while !self.terse && self.random.one_in(4) {
             match self.random.below(10) {
                 0 => self.put(b"/**/"),
                 1 => self.put("/* \"[{(' é \0\x7F **/".as_bytes()),
@@ -94,8 +109,73 @@ impl Writer<'_> {
 
     /// A value, with its node; `root`: a container, bare or identified.
     fn value(&mut self, parent: Option<usize>, key: (usize, usize), root: bool) {
-        let node = self.done.rows.len();
         self.budget = self.budget.saturating_sub(1);
+        self.node(parent, key, |writer, node| {
+            let container =
+                writer.room > 0 && (root || writer.budget > 0 && writer.random.one_in(3));
+            if container {
+                writer.container(node);
+            } else {
+                writer.scalar(node);
+            }
+        });
+    }
+
+    /// This value, with its nodes.
+    fn tree(&mut self, parent: Option<usize>, key: (usize, usize), tree: &Tree) {
+        self.node(parent, key, |writer, node| {
+            let (kind, children) = match tree {
+                Tree::Scalar => return writer.scalar(node),
+                Tree::Object(members) => {
+                    (1, members.iter().map(|(key, value)| (Some(key), value)).collect())
+                }
+                Tree::Array(items) => (2, items.iter().map(|item| (None, item)).collect()),
+                Tree::Tuple(items) => (3, items.iter().map(|item| (None, item)).collect()),
+            };
+            writer.branch(node, kind, children);
+        });
+    }
+
+    /// A container of these children, each with its key if it has one.
+    fn branch(&mut self, node: usize, kind: usize, children: Vec<(Option<&String>, &Tree)>) {
+        let [open, close] = [*b"{}", *b"[]", *b"()"][kind - 1];
+        self.put(&[open]);
+        self.gap();
+        for (number, (key, value)) in children.iter().enumerate() {
+            if number > 0 {
+                self.put(b",");
+                self.gap();
+            }
+            let start = self.at();
+            let mut span = (0, 0);
+            if let Some(key) = key {
+                self.spell(key.as_bytes(), is_word(key));
+                span = (start, self.at());
+                self.done.contents.push((start, span.1, key.as_bytes().to_vec()));
+                self.gap();
+                self.put(b":");
+                self.gap();
+            }
+            self.tree(Some(node), span, value);
+            self.gap();
+        }
+        if self.random.one_in(3) && (!children.is_empty() || kind != 1) {
+            self.put(b",");
+            self.gap();
+        }
+        self.put(&[close]);
+        self.done.rows[node][0] = kind as u32;
+        self.done.rows[node][9] = children.len() as u32;
+    }
+
+    /// A node, in an identifier now and then, and what is inside of that.
+    fn node(
+        &mut self,
+        parent: Option<usize>,
+        key: (usize, usize),
+        inside: impl FnOnce(&mut Self, usize),
+    ) {
+        let node = self.done.rows.len();
         let start = self.at() as u32;
         let mut row = [0; 12];
         row[1] = parent.map_or(u32::MAX, |number| number as u32);
@@ -103,7 +183,7 @@ impl Writer<'_> {
         row[4] = key.0 as u32;
         row[5] = key.1 as u32;
         self.done.rows.push(row);
-        let identified = self.random.one_in(6);
+        let identified = !self.terse && self.random.one_in(6);
         if identified {
             let name = self.name();
             self.done.rows[node][6] = start;
@@ -113,12 +193,7 @@ impl Writer<'_> {
             self.put(b"(");
             self.gap();
         }
-        let container = self.room > 0 && (root || self.budget > 0 && self.random.one_in(3));
-        if container {
-            self.container(node);
-        } else {
-            self.scalar(node);
-        }
+        inside(self, node);
         if identified {
             self.gap();
             self.put(b")");
@@ -169,6 +244,11 @@ impl Writer<'_> {
 
     fn scalar(&mut self, node: usize) {
         let start = self.at();
+        if self.terse {
+            self.put(b"0");
+            self.done.rows[node][0] = 6;
+            return;
+        }
         let (kind, last) = match self.random.below(10) {
             0 => {
                 self.put(b"false");
@@ -577,6 +657,22 @@ impl Writer<'_> {
     }
 }
 
+/// "a letter, or `_` and a letter or digit; then any number of groups of at most
+/// one joiner and one letter or digit"
+fn is_word(key: &str) -> bool {
+    let is_joiner = |byte: u8| byte == b'_' || byte == b'-';
+    let bytes = key.as_bytes();
+    let opens = match bytes {
+        [b'_', next, ..] => next.is_ascii_alphanumeric(),
+        [first, ..] => first.is_ascii_alphabetic(),
+        [] => false,
+    };
+    opens
+        && bytes.iter().all(|&byte| byte.is_ascii_alphanumeric() || is_joiner(byte))
+        && bytes.windows(2).all(|two| !(is_joiner(two[0]) && is_joiner(two[1])))
+        && bytes.last().is_some_and(|&last| !is_joiner(last))
+}
+
 /// An object in which some key comes again in another spelling, and the place
 /// where refusal 8 must stand.
 pub fn write_doubled(random: &mut Random) -> (Vec<u8>, usize) {
@@ -607,9 +703,21 @@ pub fn write_doubled(random: &mut Random) -> (Vec<u8>, usize) {
 
 #[cfg(test)]
 mod tests {
+    use super::is_word;
     use crate::check::{both, second_read};
     use crate::texts;
     use crate::zeros::Seen;
+
+    #[test]
+    fn words() {
+        for word in ["a", "Z", "_1", "_a", "a-b", "a_1-Z", "height_mm", "r", "b64"] {
+            assert!(is_word(word), "{word}");
+        }
+        for other in ["", "_", "-", "1", "-a", "a_", "a__b", "__a", "_-a", "a-", "a.b", "é", "a b"]
+        {
+            assert!(!is_word(other), "{other}");
+        }
+    }
 
     /// Numbers with thousands of leading zeros come up in valid texts.
     #[test]

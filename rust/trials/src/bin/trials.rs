@@ -1,13 +1,17 @@
-//! `trials --texts N --histories N --insertions N --checks N --seed S`: holds
-//! `duper` against `second` on N texts, on N histories of corrections and undos,
-//! on N texts with spaces and comments inserted, and in N UTF-8 checks.
+//! `trials --texts N --histories N --insertions N --checks N --paths N --seed S`:
+//! holds `duper` against `second` on N texts, on N histories of corrections and
+//! undos, on N texts with spaces and comments inserted, in N UTF-8 checks, and on
+//! N texts with some paths to ask for each.
 //!
-//! `--self` looks at `second` alone; `--case K`, `--history K`, `--insertion K`
-//! or `--check K` runs that text, history, text with insertions or UTF-8 check
-//! only. `--short` runs every text of up to two bytes, bare and in a few
-//! surroundings, every exponent of up to six bytes over a small alphabet, and the
-//! numbers of document 02's request 02, in place of random texts.
+//! `--self` looks at `second` alone; `--case K`, `--history K`, `--insertion K`,
+//! `--check K` or `--path K` runs that text, history, text with insertions, UTF-8
+//! check or text with paths only. `--short` runs every text of up to two bytes,
+//! bare and in a few surroundings, every exponent of up to six bytes over a small
+//! alphabet, and the numbers of document 02's request 02, in place of random
+//! texts.
 
+use std::collections::BTreeMap;
+use std::fmt::Display;
 use std::ops::Range;
 use std::process::ExitCode;
 use std::time::{Duration, Instant, SystemTime};
@@ -15,6 +19,7 @@ use std::time::{Duration, Instant, SystemTime};
 use trials::bytes;
 use trials::editing::{self, OnTrial, Seen};
 use trials::eights;
+use trials::finding;
 use trials::insertions;
 use trials::random::Random;
 use trials::texts;
@@ -26,6 +31,7 @@ struct Options {
     histories: Range<u64>,
     insertions: Range<u64>,
     checks: Range<u64>,
+    paths: Range<u64>,
     seed: u64,
     alone: bool,
     short: bool,
@@ -33,11 +39,12 @@ struct Options {
 
 const USAGE: &str = "trials [--self] [--seed S] [--short | --texts N | --case K] \
                      [--histories N | --history K] [--insertions N | --insertion K] \
-                     [--checks N | --check K]";
+                     [--checks N | --check K] [--paths N | --path K]";
 
 fn options() -> Result<Options, String> {
     let now = SystemTime::now().duration_since(SystemTime::UNIX_EPOCH).unwrap_or_default();
-    let (mut texts, mut histories, mut insertions, mut checks) = (None, None, None, None);
+    let (mut texts, mut histories, mut insertions) = (None, None, None);
+    let (mut checks, mut paths) = (None, None);
     let (mut seed, mut alone, mut short) = (now.as_nanos() as u64, false, false);
     let mut arguments = std::env::args().skip(1);
     while let Some(argument) = arguments.next() {
@@ -55,6 +62,8 @@ fn options() -> Result<Options, String> {
             "--insertion" => insertions = Some(only(number()?)),
             "--checks" => checks = Some(0..number()?),
             "--check" => checks = Some(only(number()?)),
+            "--paths" => paths = Some(0..number()?),
+            "--path" => paths = Some(only(number()?)),
             "--seed" => seed = number()?,
             "--self" => alone = true,
             "--short" => short = true,
@@ -65,15 +74,16 @@ fn options() -> Result<Options, String> {
         return Err(format!("--short has {} texts, numbered from 0", texts::SHORT));
     }
     // What isn't named isn't run, unless nothing is named.
-    let [texts, histories, insertions, checks] = match [texts, histories, insertions, checks] {
-        [None, None, None, None] => [0..100_000, 0..10_000, 0..20_000, 0..200_000],
+    let named = [texts, histories, insertions, checks, paths];
+    let [texts, histories, insertions, checks, paths] = match named {
+        [None, None, None, None, None] => [0..100_000, 0..10_000, 0..20_000, 0..200_000, 0..20_000],
         named => named.map(|range| range.unwrap_or(0..0)),
     };
-    Ok(Options { texts, histories, insertions, checks, seed, alone, short })
+    Ok(Options { texts, histories, insertions, checks, paths, seed, alone, short })
 }
 
 #[cfg(feature = "against")]
-use trials::against::{annotated, checked, compare, edits};
+use trials::against::{annotated, checked, compare, edits, found};
 
 /// Never called: `main` ends before.
 #[cfg(not(feature = "against"))]
@@ -96,6 +106,12 @@ fn annotated(_: &mut Random, _: &mut insertions::Seen) -> Result<(), String> {
 /// Nor this.
 #[cfg(not(feature = "against"))]
 fn checked(_: &[u8], _: &mut eights::Seen) -> Result<(), String> {
+    Ok(())
+}
+
+/// And this isn't.
+#[cfg(not(feature = "against"))]
+fn found(_: &mut Random, _: &mut finding::Seen) -> Result<(), String> {
     Ok(())
 }
 
@@ -297,6 +313,65 @@ fn run_checks(options: &Options) -> Result<(), String> {
     Ok(())
 }
 
+/// The texts with paths. The error is what to print.
+fn run_paths(options: &Options) -> Result<(), String> {
+    let seed = options.seed;
+    let total = options.paths.end - options.paths.start;
+    let mut progress = Progress::new();
+    let mut seen = finding::Seen::default();
+    for number in options.paths.clone() {
+        let random = &mut Random::for_case(seed.rotate_left(24), number);
+        let outcome = if options.alone {
+            finding::trial(random, finding::OnTrial::only(finding::second_find), &mut seen)
+        } else {
+            found(random, &mut seen)
+        };
+        outcome.map_err(|difference| {
+            format!(
+                "difference in path {number} of seed {seed}; again: \
+                 --seed {seed} --path {number}\n{difference}"
+            )
+        })?;
+        progress.tell(|| format!("{} of {total} texts with {} paths", number + 1, seen.paths));
+    }
+    println!(
+        "{total} texts with {} paths, no difference in answers and {} words, {:.1} s",
+        seen.paths,
+        seen.words,
+        progress.seconds()
+    );
+    println!(
+        "  texts: {} documents, {} of them damaged, and {} others; answers known beforehand: {}",
+        seen.documents + seen.damaged,
+        seen.damaged,
+        seen.elsewhere,
+        seen.known
+    );
+    println!(
+        "  found: {}, the root {} times; by at most {} steps, and up to node {}; longest path: \
+         {} bytes",
+        seen.found, seen.roots, seen.deepest, seen.greatest, seen.longest
+    );
+    println!(
+        "  refused with 23: {}, by step {}",
+        seen.stuck.values().sum::<u64>(),
+        listed(&seen.stuck)
+    );
+    println!(
+        "  refused by the reading: {}, by number {}",
+        seen.refused.values().sum::<u64>(),
+        listed(&seen.refused)
+    );
+    println!("  paths by sort: {}", listed(&seen.sorts));
+    Ok(())
+}
+
+/// What came up, each with its count.
+fn listed(counts: &BTreeMap<impl Display, u64>) -> String {
+    let counts: Vec<_> = counts.iter().map(|(what, count)| format!("{what}: {count}")).collect();
+    counts.join(", ")
+}
+
 fn main() -> ExitCode {
     let options = match options() {
         Ok(options) => options,
@@ -322,6 +397,9 @@ fn main() -> ExitCode {
     }
     if outcome.is_ok() && !options.checks.is_empty() {
         outcome = run_checks(&options);
+    }
+    if outcome.is_ok() && !options.paths.is_empty() {
+        outcome = run_paths(&options);
     }
     match outcome {
         Ok(()) => ExitCode::SUCCESS,
