@@ -5,12 +5,11 @@ use mathlib.Core.Path.{_≡_, refl, sym, ap, _∙_, subst}
 use Prim.Native.Nat.{ℕ, zero, suc, _+_, _-_}
 use native.Mathlib.Omega.{arith}
 use mathlib.Core.Bool.{Bool, true, false, _||_, true≢false}
-use mathlib.Core.Option.{Option, none, some}
+use mathlib.Core.Option.{Option, some}
 use mathlib.Core.List.{List, [], _∷_}
-use lib.Dec.{ltb}
 use Rattle.text.specs.declared.switches.Switches.{Switches}
 use Rattle.text.specs.Bytes.{sameBytes}
-use Rattle.text.proofs.Choice.{cond-case, cond-true, cond-false}
+use Rattle.text.proofs.Choice.{cond-true, cond-false}
 use Rattle.text.proofs.SameLaws.{same-is}
 use Rattle.literals.specs.Content.{sameContent}
 use Rattle.reader.specs.declared.tree.Kind.{Kind}
@@ -21,7 +20,8 @@ use Rattle.reader.specs.Reading.{reading}
 use Rattle.nodes.specs.Nodes.{nodeAt, nodeIn, kindOf, childrenOf, Numbered, numbered, firstThat, nth, contentOfKey, hasKey, member, element}
 use Rattle.nodes.specs.InternalTrees.{AllScalars, AllScalarsIn, KeysAre, Different, ChildKeys, AllKeyed, AllKeyedIn}
 use Rattle.nodes.proofs.WordLaws.{some-is, none-is, scalar-high}
-use Rattle.nodes.proofs.SoundLaws.{reading-keyed}
+use Rattle.nodes.proofs.NodeLaws.{in-case}
+use Rattle.nodes.proofs.ValueLaws.{reading-keyed}
 
 -- ---- from a tree to its nodes
 
@@ -40,8 +40,7 @@ module _ (Q : Tree → Type 0) (R : Forest → Type 0) (down : (h : Head) (k : K
     inherited-in : (f : Forest) (i : ℕ) → nodeIn f i ≡ some u → R f → Q u
     inherited-in nil i e r = none-is e
     inherited-in (cons t f) i e r =
-        cond-case (λ (o : Option Tree). o ≡ some u) (Q u) (ltb i (size t)) e
-        (λ _ q. inherited t i q (apart t f r .0)) (λ _ q. inherited-in f (i - size t) q (apart t f r .1))
+        in-case (Q u) t u f i e (λ _ q. inherited t i q (apart t f r .0)) (λ _ q. inherited-in f (i - size t) q (apart t f r .1))
 
 pub scalars-node : (P : Scalar → Type 0) (t u : Tree) (i : ℕ) → nodeAt t i ≡ some u → AllScalars P t → AllScalars P u
 unfolding AllScalars

@@ -8,5 +8,5 @@ pub mod ContentLaws
 pub mod ChildLaws
 pub mod TextLaws
 pub mod FedLaws
-pub mod SoundLaws
+pub mod ValueLaws
 pub mod KeyLaws

@@ -6,11 +6,13 @@ use Prim.Native.Nat.{ℕ, zero, suc, _+_, _-_, _≤_, _<_}
 use native.Mathlib.Nat.{add-zero}
 use native.Mathlib.Decide.{decLt}
 use native.Mathlib.Omega.{arith}
-use mathlib.Core.Bool.{Bool, true, false, cond}
-use mathlib.Core.Option.{some}
+use mathlib.Core.Bool.{Bool}
+use mathlib.Core.Option.{Option, some}
 use mathlib.Core.List.{List}
 use lib.ListN.{length, getD, replicate, length-append}
-use borrow.Author.Tests.{lt-ltb, le-ltb}
+use lib.Dec.{ltb}
+use borrow.Author.Tests.{lt-ltb, le-ltb, ltb-true, ltb-false}
+use Rattle.text.proofs.Choice.{cond-case, cond-true, cond-false}
 use Rattle.reader.specs.Tree.{Tree, leaf, branch, Forest, nil, cons, size, sizes, count, rows, padded, noParent}
 use Rattle.reader.specs.Syntax.{Outcome, taken, refused}
 use Rattle.reader.specs.Reading.{tableOf, wordOf, nodeCount}
@@ -19,6 +21,23 @@ use Rattle.nodes.specs.Nodes.{nodeAt, nodeIn, nodeOf, childrenOf, Number
 use Rattle.nodes.specs.Stands.{Node}
 use Rattle.nodes.proofs.WordLaws.{some-is, none-is, words-left, size-pos, word-parent}
 use Rattle.nodes.proofs.WalkLaws.{Ahead, ahead-all, ahead-node, ahead-next}
+
+-- ---- values side by side
+
+in-first : (t : Tree) (f : Forest) (i : ℕ) → i < size t → nodeIn (cons t f) i ≡ nodeAt t i
+unfolding nodeAt
+in-first t f i h = cond-true (ltb i (size t)) (nodeAt t i) (nodeIn f (i - size t)) (lt-ltb i (size t) h)
+
+in-later : (t : Tree) (f : Forest) (i : ℕ) → size t ≤ i → nodeIn (cons t f) i ≡ nodeIn f (i - size t)
+unfolding nodeAt
+in-later t f i h = cond-false (ltb i (size t)) (nodeAt t i) (nodeIn f (i - size t)) (le-ltb i (size t) h)
+
+-- a node among them is one of the first's, or of the others'
+pub in-case : (Q : Type 0) (t u : Tree) (f : Forest) (i : ℕ) → nodeIn (cons t f) i ≡ some u → (i < size t → nodeAt t i ≡ some u → Q)
+    → (size t ≤ i → nodeIn f (i - size t) ≡ some u → Q) → Q
+unfolding nodeAt
+in-case Q t u f i e a b =
+    cond-case (λ (o : Option Tree). o ≡ some u) Q (ltb i (size t)) e (λ h q. a (ltb-true i (size t) h) q) (λ h q. b (ltb-false i (size t) h) q)
 
 -- ---- the root, and every number below the count
 
@@ -55,14 +74,10 @@ module _ (table : List ℕ) (u : Tree) where
     node-among : (n x : ℕ) (f : Forest) → Ahead table n x f → (i : ℕ) → nodeIn f i ≡ some u → Node table (x + i) u
     node-among n x nil B i e = none-is e
     node-among n x (cons t f) B i e =
-        elim (decLt i (size t)) [
-          | yes h ↦ node-below x t (ahead-node table n x t f B) i (sym (ap (λ (b : Bool). cond b (nodeAt t i) (nodeIn f (i - size t))) (lt-ltb i (size t) h)) ∙ e)
-          | no h ↦
-              let g : size t ≤ i = omega arith in
-              let q : x + i ≡ x + size t + (i - size t) = omega arith in
-              rw q (node-among n (x + size t) f (ahead-next table n x t f B) (i - size t)
-              (sym (ap (λ (b : Bool). cond b (nodeAt t i) (nodeIn f (i - size t))) (le-ltb i (size t) g)) ∙ e))
-        ]
+        in-case (Node table (x + i) u) t u f i e (λ _ d. node-below x t (ahead-node table n x t f B) i d)
+        (λ h d.
+        let q : x + i ≡ x + size t + (i - size t) = omega arith in
+        rw q (node-among n (x + size t) f (ahead-next table n x t f B) (i - size t) d))
 
 -- ---- numbers of nodes, in the tree
 
@@ -86,11 +101,8 @@ mutual
   node-some-in nil i l = absurd (omega arith)
   node-some-in (cons t f) i l =
       elim (decLt i (size t)) [
-        | yes h ↦ let r = node-some t i h in (r .0, ap (λ (b : Bool). cond b (nodeAt t i) (nodeIn f (i - size t))) (lt-ltb i (size t) h) ∙ r .1)
-        | no h ↦
-            let g : size t ≤ i = omega arith in
-            let r = node-some-in f (i - size t) (omega arith) in
-            (r .0, ap (λ (b : Bool). cond b (nodeAt t i) (nodeIn f (i - size t))) (le-ltb i (size t) g) ∙ r .1)
+        | yes h ↦ let r = node-some t i h in (r .0, in-first t f i h ∙ r .1)
+        | no h ↦ let r = node-some-in f (i - size t) (omega arith) in (r .0, in-later t f i (omega arith) ∙ r .1)
       ]
 
 module _ (u : Tree) where
@@ -107,13 +119,8 @@ module _ (u : Tree) where
     node-fits-in : (f : Forest) (i : ℕ) → nodeIn f i ≡ some u → i + size u ≤ sizes f
     node-fits-in nil i e = none-is e
     node-fits-in (cons t f) i e =
-        elim (decLt i (size t)) [
-          | yes h ↦ let q = node-fits t i (sym (ap (λ (b : Bool). cond b (nodeAt t i) (nodeIn f (i - size t))) (lt-ltb i (size t) h)) ∙ e) in omega arith
-          | no h ↦
-              let g : size t ≤ i = omega arith in
-              let q = node-fits-in f (i - size t) (sym (ap (λ (b : Bool). cond b (nodeAt t i) (nodeIn f (i - size t))) (le-ltb i (size t) g)) ∙ e) in
-              omega arith
-        ]
+        in-case (i + size u ≤ size t + sizes f) t u f i e (λ h d. let q = node-fits t i d in omega arith)
+        (λ h d. let q = node-fits-in f (i - size t) d in omega arith)
 
 module _ (u v : Tree) (j : ℕ) (below : nodeAt u j ≡ some v) where
   mutual
@@ -137,20 +144,11 @@ module _ (u v : Tree) (j : ℕ) (below : nodeAt u j ≡ some v) where
     node-in-nodes (cons t f) i e =
         let m = node-fits v u j below in
         let p = size-pos v in
-        elim (decLt i (size t)) [
-          | yes h ↦
-              let d = sym (ap (λ (b : Bool). cond b (nodeAt t i) (nodeIn f (i - size t))) (lt-ltb i (size t) h)) ∙ e in
-              let q = node-fits u t i d in
-              let l : i + j < size t = omega arith in
-              ap (λ (b : Bool). cond b (nodeAt t (i + j)) (nodeIn f (i + j - size t))) (lt-ltb (i + j) (size t) l) ∙ node-in-node t i d
-          | no h ↦
-              let g : size t ≤ i = omega arith in
-              let l : size t ≤ i + j = omega arith in
-              let q : i + j - size t ≡ i - size t + j = omega arith in
-              ap (λ (b : Bool). cond b (nodeAt t (i + j)) (nodeIn f (i + j - size t))) (le-ltb (i + j) (size t) l)
-              ∙ ap (λ (m : ℕ). nodeIn f m) q
-              ∙ node-in-nodes f (i - size t) (sym (ap (λ (b : Bool). cond b (nodeAt t i) (nodeIn f (i - size t))) (le-ltb i (size t) g)) ∙ e)
-        ]
+        in-case (nodeIn (cons t f) (i + j) ≡ some v) t u f i e
+        (λ h d. let q = node-fits u t i d in in-first t f (i + j) (omega arith) ∙ node-in-node t i d)
+        (λ h d.
+        let q : i + j - size t ≡ i - size t + j = omega arith in
+        in-later t f (i + j) (omega arith) ∙ ap (λ (m : ℕ). nodeIn f m) q ∙ node-in-nodes f (i - size t) d)
 
 -- ---- children are nodes
 
@@ -160,38 +158,24 @@ pub record Among (n : ℕ) (f : Forest) (c : Numbered) : Type 0 where
   pub found : nodeIn f (c .number - n) ≡ some (c .value)
 
 among-first : (n : ℕ) (t : Tree) (f : Forest) → Among n (cons t f) (numbered n t)
-unfolding nodeAt
 among-first n t f =
     let q : n - n ≡ 0 = omega arith in
     let p = size-pos t in
-    let l : 0 < size t = omega arith in
-    record {
-      from = omega arith;
-      found = ap (λ (i : ℕ). nodeIn (cons t f) i) q ∙ ap (λ (b : Bool). cond b (nodeAt t 0) (nodeIn f (0 - size t))) (lt-ltb 0 (size t) l) ∙ node-root t;
-    }
+    record { from = omega arith; found = ap (λ (i : ℕ). nodeIn (cons t f) i) q ∙ in-first t f 0 (omega arith) ∙ node-root t }
 
 among-later : (n : ℕ) (t : Tree) (f : Forest) (c : Numbered) → Among (n + size t) f c → Among n (cons t f) c
-unfolding nodeAt
 among-later n t f c B =
     let l = B .from in
-    let g : size t ≤ c .number - n = omega arith in
     let q : c .number - n - size t ≡ c .number - (n + size t) = omega arith in
-    record {
-      from = omega arith;
-      found =
-          ap (λ (b : Bool). cond b (nodeAt t (c .number - n)) (nodeIn f (c .number - n - size t))) (le-ltb (c .number - n) (size t) g)
-          ∙ ap (λ (i : ℕ). nodeIn f i) q ∙ B .found;
-    }
+    record { from = omega arith; found = in-later t f (c .number - n) (omega arith) ∙ ap (λ (i : ℕ). nodeIn f i) q ∙ B .found }
 
 pub first-among : (p : Tree → Bool) (n : ℕ) (f : Forest) (c : Numbered) → firstThat p n f ≡ some c → Among n f c
 unfolding firstThat
 first-among p n nil c e = none-is e
-first-among p n (cons t f) c e = go (p t) refl (λ q. first-among p (n + size t) f c q)
-  where
-    go : (b : Bool) → p t ≡ b → (firstThat p (n + size t) f ≡ some c → Among (n + size t) f c) → Among n (cons t f) c
-    go true h r = subst (λ (d : Numbered). Among n (cons t f) d) (some-is (sym (ap (λ (b : Bool). cond b (some (numbered n t)) (firstThat p (n + size t) f)) h) ∙ e)) (among-first n t f)
-    go false h r =
-        among-later n t f c (r (sym (ap (λ (b : Bool). cond b (some (numbered n t)) (firstThat p (n + size t) f)) h) ∙ e))
+first-among p n (cons t f) c e =
+    cond-case (λ (o : Option Numbered). o ≡ some c) (Among n (cons t f) c) (p t) e
+    (λ _ q. subst (λ (d : Numbered). Among n (cons t f) d) (some-is q) (among-first n t f))
+    (λ _ q. among-later n t f c (first-among p (n + size t) f c q))
 
 pub nth-among : (i n : ℕ) (f : Forest) (c : Numbered) → nth i n f ≡ some c → Among n f c
 unfolding nth

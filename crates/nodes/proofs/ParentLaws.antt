@@ -1,16 +1,13 @@
 -- Every node but the root is a child of another.
 -- Assumes nothing.
-use mathlib.Core.Path.{_≡_, refl, sym, ap, _∙_, subst}
-use Prim.Native.Nat.{ℕ, zero, suc, _+_, _-_, _<_, _≤_}
+use mathlib.Core.Path.{_≡_, sym, ap, _∙_, subst}
+use Prim.Native.Nat.{ℕ, zero, suc, _+_, _-_, _<_}
 use native.Mathlib.Omega.{arith}
-use mathlib.Core.Option.{Option, some}
-use lib.Dec.{ltb}
-use borrow.Author.Tests.{ltb-false}
-use Rattle.text.proofs.Choice.{cond-case}
+use mathlib.Core.Option.{some}
 use Rattle.reader.specs.Tree.{Tree, leaf, branch, Forest, nil, cons, size}
-use Rattle.nodes.specs.Nodes.{nodeAt, nodeIn, childrenOf, Numbered, numbered, nth, element}
+use Rattle.nodes.specs.Nodes.{nodeAt, nodeIn, childrenOf, numbered, nth, element}
 use Rattle.nodes.proofs.WordLaws.{some-is, none-is}
-use Rattle.nodes.proofs.NodeLaws.{node-root, nth-among, child-node}
+use Rattle.nodes.proofs.NodeLaws.{in-case, node-root, nth-among, child-node}
 
 -- the value u with the number m is a child of a node of the tree
 pub record ChildOf (tree : Tree) (m : ℕ) (u : Tree) : Type 0 where
@@ -63,10 +60,8 @@ module _ (tree : Tree) (u : Tree) where
     among : (n : ℕ) (t : Tree) (i x : ℕ) (f : Forest) (m : ℕ) → nodeAt tree n ≡ some t → Rest n t i x f → nodeIn f m ≡ some u → ChildOf tree (x + m) u
     among n t i x nil m e R d = none-is d
     among n t i x (cons v f) m e R d =
-        cond-case (λ (o : Option Tree). o ≡ some u) (ChildOf tree (x + m) u) (ltb m (size v)) d
-        (λ _ q. at-or-below n t i x v f m e R q (λ j p r. below x v j p r))
+        in-case (ChildOf tree (x + m) u) v u f m d (λ _ q. at-or-below n t i x v f m e R q (λ j p r. below x v j p r))
         (λ l q.
-        let g = ltb-false m (size v) l in
         let z : x + size v + (m - size v) ≡ x + m = omega arith in
         subst (λ (k : ℕ). ChildOf tree k u) z (among n t (suc i) (x + size v) f (m - size v) e (rest-next n t i x v f R) q))
 

@@ -9,8 +9,6 @@ use mathlib.Core.List.{List, [], _∷_, _++_}
 use lib.ListN.{length, getD, length-append, List·getD-append}
 use lib.Seq.{getD-append-add}
 use Rattle.reader.specs.Tree as T
-use Rattle.reader.specs.declared.tree.Kind.{Kind}
-use Rattle.reader.specs.declared.tree.Kind.the-variants.{Object, Array, Tuple}
 use Rattle.reader.specs.Tree.{Span, Head, Scalar, Tree, leaf, branch, headOf, size, sizes, count, spanWords, headWords, kindNumber, scalarNumber, scalarWords, rows, rowsAll, nodeWords}
 use Rattle.reader.specs.Reading.{wordOf}
 use Rattle.reader.proofs.TableLaws.{length-rows}
@@ -83,12 +81,6 @@ scalar-high (T.decimal minus m p) = omega arith
 scalar-high T.falseValue = omega arith
 scalar-high T.trueValue = omega arith
 scalar-high T.nullValue = omega arith
-
-pub container-low : (k : Kind) → kindNumber k ≤ 3
-unfolding kindNumber
-container-low Object = omega arith
-container-low Array = omega arith
-container-low Tuple = omega arith
 
 -- the words of a row that navigation reads
 row-front : (parent n : ℕ) (t : Tree)

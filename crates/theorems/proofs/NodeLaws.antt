@@ -16,13 +16,13 @@ use Rattle.reader.specs.Reading.{reading, tableOf, wordOf}
 use Rattle.reader.specs.Content.{spanContent}
 use Rattle.nodes.specs.Nodes.{nodeOf, kindOf, childrenOf, Numbered, numbered, nth, contentOfKey, hasKey, element}
 use Rattle.nodes.specs.Stands.{Node}
-use Rattle.nodes.specs.Sound.{InRange}
+use Rattle.nodes.specs.Range.{InRange}
 use Rattle.nodes.specs.InternalTrees.{AllScalars, StringIs}
 use Rattle.nodes.proofs.WordLaws.{some-is, none-is, firstOf, secondOf, ownWord, scalar-high, word-is, word-next, word-count, word-key, word-own}
 use Rattle.nodes.proofs.WalkLaws.{Ahead, ahead-all, ahead-node, ahead-parent, Nth, nth-ahead}
 use Rattle.nodes.proofs.NodeLaws.{root-parent, nth-among, child-node, node-table, node-stands, node-count, node-taken}
 use Rattle.nodes.proofs.ParentLaws.{node-child}
-use Rattle.nodes.proofs.SoundLaws.{reading-ranged, reading-strings}
+use Rattle.nodes.proofs.ValueLaws.{reading-ranged, reading-strings}
 use Rattle.nodes.proofs.KeyLaws.{scalars-node, child-keyed, only-member, same-member}
 use Rattle.theorems.specs.Nodes.{IsNode, Children, NodesNumbered, WordsStand, ChildrenFollow, ParentsNamed, StringsByWords, KeysDiffer, NumbersInRange}
 

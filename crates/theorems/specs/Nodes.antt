@@ -14,7 +14,7 @@ use Rattle.reader.specs.Tree.{Span, Head, Scalar, Tree, leaf, rows, nodeWords, 
 use Rattle.reader.specs.Reading.{reading, nodeCount, tableOf, wordOf}
 use Rattle.reader.specs.Content.{spanContent}
 use Rattle.nodes.specs.Nodes.{nodeOf, kindOf, Numbered, numbered, hasKey, member, element}
-use Rattle.nodes.specs.Sound.{InRange}
+use Rattle.nodes.specs.Range.{InRange}
 
 module _ (sw : Switches) (words : ℕ) (text : List ℕ) where
   -- the value t has the number n in the reading of the text with a table of so many words

@@ -24,7 +24,7 @@ use Rattle.reader.specs.Content.{spanContent}
 use Rattle.reader.proofs.KeepLaws.{IntegerFits, Keeps, at-keeps}
 use Rattle.reader.proofs.ReplaceLaws.{outcome-taken}
 use Rattle.nodes.specs.Nodes.{contentOfKey}
-use Rattle.nodes.specs.Sound.{IntegerInRange, PowerInRange, InRange}
+use Rattle.nodes.specs.Range.{IntegerInRange, PowerInRange, InRange}
 use Rattle.nodes.specs.InternalTrees.{AllScalars, AllScalarsIn, StringIs, AllKeyed}
 use Rattle.nodes.proofs.TextLaws.{TokenIn, TokensIn, cut-in, span-content}
 use Rattle.nodes.proofs.FedLaws.{FedBegins, Fed, FedTokens, All, OutcomeAll, run-all}
