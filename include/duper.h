@@ -101,14 +101,14 @@ uint64_t duper_content(const uint8_t *text, size_t text_len,
  * Reads the text into the table, as duper_read does, and follows a path from
  * the root, such as balls.3.height_mm.
  *
- * A path is any bytes, of any length: steps with a dot between any two. The
- * empty path has no step and leads to the root; any other has one step more
+ * A path is any bytes, of any length: steps with a dot after each but the last.
+ * The empty path has no step and leads to the root; any other has one step more
  * than it has dots, and a step may be empty: a single dot is two empty steps.
  * In an object a step is the content of a key, byte for byte, however the key
  * is written. In an array or tuple it is an index from 0 in decimal digits,
  * without leading zeros, and of any length; 00, +1, -0 and 1_0 are none, nor is
  * an empty step. Other values have no children. Identifiers are ignored. A key
- * with a dot in it can't be reached.
+ * with a dot in it can't be reached, nor the value of an empty key at the root.
  *
  * Answers the node's number, from 0 to 4095; else the refusal times 4294967296
  * plus its place: 1 to 10, the text isn't taken, and then every word of the

@@ -52,19 +52,19 @@ pub fn fill_from(fd: i32, name: &[u8], buf: &mut [u8]) -> Filled
     got
 }
 
-// The same from the file at this path. A file that can't be opened counts as a read that failed.
-fn fill_file(path: &[u8], buf: &mut [u8]) -> Filled
+// The same from the file of this name. A file that can't be opened counts as a read that failed.
+fn fill_file(name: &[u8], buf: &mut [u8]) -> Filled
     ensures { λ r. ⌜ Counts (r .count) (now (buf .exit)) ⌝ }
 {
-    let fd = os::open_read(path);
+    let fd = os::open_read(name);
     if fd < 0 {
-        os::fail(path);
+        os::fail(name);
         return Filled {
             is_read: false,
             count: 0,
         };
     }
-    let got = fill_from(fd, path, buf);
+    let got = fill_from(fd, name, buf);
     libc::close(fd);
     got
 }
@@ -73,8 +73,8 @@ fn fill_file(path: &[u8], buf: &mut [u8]) -> Filled
 pub fn fill_named(i: usize, buf: &mut [u8]) -> Filled
     ensures { λ r. ⌜ Counts (r .count) (now (buf .exit)) ⌝ }
 {
-    let mut path = io::buffer();
-    let length = os::arg(i, &mut path);
+    let mut name = io::buffer();
+    let length = os::arg(i, &mut name);
     if os::errno() != 0 {
         os::fail(b"the file's name");
         return Filled {
@@ -82,5 +82,5 @@ pub fn fill_named(i: usize, buf: &mut [u8]) -> Filled
             count: 0,
         };
     }
-    fill_file(&path[..length], buf)
+    fill_file(&name[..length], buf)
 }

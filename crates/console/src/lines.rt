@@ -2,7 +2,7 @@
 use libc::STDOUT_FILENO;
 
 // A number and what stands after it; false where they can't be written.
-fn word(n: u64, after: &[u8]) -> bool {
+fn print_number(n: u64, after: &[u8]) -> bool {
     io::print_decimal(STDOUT_FILENO, n) && io::write_all(STDOUT_FILENO, after)
 }
 
@@ -17,10 +17,10 @@ fn is_told(is_written: bool) -> bool {
 // The line of a node: its number, its kind, and where its value starts and ends.
 pub fn node(number: usize, kind: usize, start: usize, end: usize) -> bool {
     is_told(
-        word(number as u64, b" ")
-            && word(kind as u64, b" ")
-            && word(start as u64, b" ")
-            && word(end as u64, b"\n"),
+        print_number(number as u64, b" ")
+            && print_number(kind as u64, b" ")
+            && print_number(start as u64, b" ")
+            && print_number(end as u64, b"\n"),
     )
 }
 
@@ -28,7 +28,7 @@ pub fn node(number: usize, kind: usize, start: usize, end: usize) -> bool {
 pub fn refused(number: u8, place: usize) -> bool {
     is_told(
         io::write_all(STDOUT_FILENO, b"refused ")
-            && word(number as u64, b" ")
-            && word(place as u64, b"\n"),
+            && print_number(number as u64, b" ")
+            && print_number(place as u64, b"\n"),
     )
 }

@@ -1,4 +1,4 @@
-// Words of nodes. The only place above the reader that says how many words a node has.
+// Words of nodes. Crates above this one go by them, and so need not say how many words a node has.
 ghost use mathlib.Core.Path.{_≡_};
 ghost use Prim.Native.Nat.{_<_, _+_, _*_};
 ghost use lib.ListN.{length};

@@ -1,5 +1,5 @@
 -- The nodes of a text that was taken: every value has a number, the table's words say of each what the tree says, children follow one another
--- by word 8, and no two keys of an object have the same content. Requests that ask for a value by its place in the text stand on this.
+-- by word 8, and no two keys of an object have the same content. Requests that ask for a value by where it stands among the others rest on this.
 -- By its contract `read_edition` (reader/src/read.rt) leaves the table that is spoken of here.
 -- Assumes nothing.
 use mathlib.Core.Path.{_≡_}

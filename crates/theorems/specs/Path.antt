@@ -97,7 +97,7 @@ PathsUnpacked = (words : ℕ) (text path : List ℕ) (a : FindCall words text pa
 
 -- ---- examples
 
--- Node 0 is the object in `S(..)`, 1 the array `balls`, 2 to 5 its elements `1`, `A({..})` with its member 4, and the tuple with 6 and 7; 8 is
+-- Node 0 is the object in `S(..)`, 1 the array `balls`, 2, 3 and 5 its elements: `1`, `A({..})` with its member 4, and the tuple with 6 and 7; 8 is
 -- the empty object, whose key is `a.b`, 9 the object with an empty key and 10 the member of it that has one too, and 11 is `3`.
 abbrev pub example : String
 example = "S({balls:[1,A({height_mm:7}),(null,\"x\")],\"a\\x2Eb\":{},\"\":{\"\":2},\"\\x30\":3})"

@@ -317,6 +317,17 @@ impl Document {
     /// # Ok::<(), duper::Refusal>(())
     /// ```
     ///
+    /// No other refusal comes up, as the text of a document was taken. So a value
+    /// can be corrected by its path:
+    ///
+    /// ```
+    /// let mut document = duper::Document::read("{heights: [412.5, null]}")?;
+    /// let lost = document.find("heights.1")?.number();
+    /// document.correct(lost, "398")?;
+    /// assert_eq!(document.text(), b"{heights: [412.5, 398]}");
+    /// # Ok::<(), duper::Refusal>(())
+    /// ```
+    ///
     /// The text is read for each call anew, into a table lent for it.
     pub fn find(&self, path: impl AsRef<[u8]>) -> Result<Node<'_>, Refusal> {
         let mut table = vec![0; self.table.len()];

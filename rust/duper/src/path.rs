@@ -5,12 +5,13 @@ use crate::{sys, Refusal};
 /// Reads a text into the lent table, as [`read`](crate::read) does, and answers
 /// the number of the node that a path leads to.
 ///
-/// A path is any bytes, of any length: steps with a dot between any two. The
-/// empty path has no step and leads to the root; any other has one step more
+/// A path is any bytes, of any length: steps with a dot after each but the last.
+/// The empty path has no step and leads to the root; any other has one step more
 /// than it has dots, and a step may be empty: `.` is two empty steps.
 ///
 /// - In an object a step is the content of a key, byte for byte, however the key
-///   is written. A key with a dot in it can't be reached.
+///   is written. A key with a dot in it can't be reached, nor the value of an
+///   empty key at the root.
 /// - In an array or tuple it is an index from 0, in decimal digits without
 ///   leading zeros. `00`, `+1`, `-0` and `1_0` lead nowhere, nor does an index
 ///   past the last child, however long.

@@ -18,8 +18,8 @@ use std::fmt;
 pub struct Refusal {
     /// The number, from 1 on.
     pub number: u32,
-    /// The place in the text, in bytes; 0 from number 11 on. Of 23 it is the
-    /// number of a step of the path; see [`step`](Refusal::step).
+    /// The place in the text, in bytes; 0 from number 11 on, but for 23, where
+    /// it is the number of a step of the path: see [`step`](Refusal::step).
     pub place: u32,
 }
 

@@ -22,7 +22,7 @@
 //! and works everything out anew from the corrections in force. [`insertion`]
 //! is document 02's rule on what comments may do to a table, and [`utf8`] its
 //! check that passes over eight plain bytes at a time. [`path`] finds a node by
-//! the keys and indexes that lead to it from the root.
+//! the keys and indices that lead to it from the root.
 
 #![forbid(unsafe_code)]
 #![warn(missing_docs)]

@@ -169,7 +169,7 @@ fn only_children_count() {
     leads(text, "k", 5);
     stops("{a:{b:1}}", "b", 0);
     stops("{a:{b:1},c:{}}", "c.b", 1);
-    // Indexes count children, not nodes.
+    // Indices count children, not nodes.
     let text = "[[1,2],[3,4]]";
     leads(text, "0", 1);
     leads(text, "0.0", 2);
@@ -402,7 +402,7 @@ fn keys_outside_ascii() {
 }
 
 #[test]
-fn keys_that_look_like_indexes() {
+fn keys_that_look_like_indices() {
     leads(r#"{"0":1}"#, "0", 1);
     stops(r#"{"0":1}"#, "00", 0);
     stops(r#"{"0":1}"#, "1", 0);
@@ -462,7 +462,7 @@ fn empty_keys() {
     leads(r#"[{"":5}]"#, "0.", 2);
 }
 
-// Indexes.
+// Indices.
 
 /// Twelve items in an array and as many in a tuple, and nothing but that.
 const TWELVES: &str = "{l:[0,1,2,3,4,5,6,7,8,9,10,11],t:(0,1,2,3,4,5,6,7,8,9,10,11)}";
@@ -477,7 +477,7 @@ fn no_index(step: impl AsRef<[u8]>) {
 }
 
 #[test]
-fn indexes_of_one_digit_and_of_two() {
+fn indices_of_one_digit_and_of_two() {
     for (index, in_list, in_tuple) in [
         ("0", 2, 15),
         ("1", 3, 16),
@@ -500,7 +500,7 @@ fn indexes_of_one_digit_and_of_two() {
 }
 
 #[test]
-fn indexes_past_the_end() {
+fn indices_past_the_end() {
     for index in ["12", "13", "20", "99", "100", "101", "110", "255", "256", "65536"] {
         no_index(index);
     }
@@ -558,7 +558,7 @@ fn all_one_byte_steps() {
 }
 
 #[test]
-fn wide_indexes() {
+fn wide_indices() {
     for step in [
         // Around 2 to the 31, 32, 63, 64 and 128, and each with 1 and 11 more.
         "2147483647",
@@ -1010,7 +1010,7 @@ const NAMES: [&str; 4] = ["A", "Over", "Ball-2", "X_y"];
 impl Value {
     /// A container with others up to so deep in it.
     fn container(numbers: &mut Numbers, depth: usize) -> Value {
-        // Now and then enough for indexes of two digits.
+        // Now and then enough for indices of two digits.
         let length = if numbers.below(16) == 0 { 9 + numbers.below(6) } else { numbers.below(6) };
         let kind = numbers.below(4);
         let items = (0..length).map(|_| Value::any(numbers, depth - 1)).collect::<Vec<_>>();

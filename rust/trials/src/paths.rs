@@ -435,7 +435,7 @@ fn dots(random: &mut Random, mut path: Vec<u8>) -> Way {
     }
 }
 
-/// A path of tens of thousands of bytes, with a good one before them.
+/// A path of up to tens of thousands of bytes, with a good one before them.
 fn long(random: &mut Random, mut path: Vec<u8>) -> Way {
     let unit = random.pick(&[".", "0.", "a.", "0", "9", "a", ".0"]);
     if random.one_in(2) && !path.is_empty() {

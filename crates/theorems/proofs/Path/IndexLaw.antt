@@ -1,4 +1,4 @@
--- "a decimal index from 0 without leading zeros": a step says the number that its digits make, and nothing else does.
+-- "a decimal index from 0 without leading zeros": such a step says the number that its digits make, and any other step says none.
 -- Assumes nothing.
 use mathlib.Core.Path.{_≡_, refl, sym, ap, _∙_, subst}
 use Prim.Native.Nat.{ℕ, _+_, _-_, _*_, _<_}
