@@ -59,6 +59,7 @@ pub record Numbered : Type 0 where
   pub number : ℕ
   pub value : Tree
 
+-- from its parts
 abbrev pub numbered : ℕ → Tree → Numbered
 numbered n t = record { number = n; value = t }
 

@@ -12,6 +12,7 @@ use Rattle.text.proofs.SameLaws.{same-refl}
 use Rattle.literals.specs.Content.{sameContent}
 use Rattle.reader.specs.Tree as T
 use Rattle.reader.specs.Tree.{Span, Head, Scalar, Tree, leaf, branch, Forest, nil, cons, headOf, size, sizes, count, scalarWords}
+use Rattle.reader.specs.Syntax.{taken}
 use Rattle.reader.specs.Reading.{reading, tableOf, wordOf}
 use Rattle.reader.specs.Content.{spanContent}
 use Rattle.nodes.specs.Nodes.{nodeOf, kindOf, childrenOf, Numbered, numbered, nth, contentOfKey, hasKey, element}
@@ -152,38 +153,39 @@ parents-named sw words text =
 -- ---- contents, keys and numbers
 
 module _ (sw : Switches) (words : ℕ) (text : List ℕ) (n : ℕ) (h : Head) (s : Scalar) (e : IsNode sw words text n (leaf h s)) where
-  string : StringIs sw text s
+  -- what is so of every such value of a taken text is so of this one
+  scalar-has : (P : Scalar → Type 0) → ((tree : Tree) → reading sw words text ≡ taken tree → AllScalars P tree) → P s
   unfolding AllScalars
-  string =
-      let r = node-taken n (reading sw words text) (leaf h s) e in
-      scalars-node (StringIs sw text) (r .0) (leaf h s) n (r .2) (reading-strings sw words text (r .0) (r .1))
+  scalar-has P all = let r = node-taken n (reading sw words text) (leaf h s) e in scalars-node P (r .0) (leaf h s) n (r .2) (all (r .0) (r .1))
 
-  ranged : InRange s
-  unfolding AllScalars
-  ranged =
-      let r = node-taken n (reading sw words text) (leaf h s) e in
-      scalars-node InRange (r .0) (leaf h s) n (r .2) (reading-ranged sw words text (r .0) (r .1))
+  string : StringIs sw text s
+  string = scalar-has (StringIs sw text) (λ tree q. reading-strings sw words text tree q)
 
   own-word : (i : ℕ) → i < 3 → wordOf (tableOf words (reading sw words text)) n (9 + i) ≡ getD (scalarWords s) i 0
   own-word i l = word-own (tableOf words (reading sw words text)) n h s (node-table words n (reading sw words text) (leaf h s) e) i l
+
+  -- words 9 and 10 are a span that has this content
+  words-content : (start stop : ℕ) (content : List ℕ) → getD (scalarWords s) 0 0 ≡ start → getD (scalarWords s) 1 0 ≡ stop
+      → spanContent sw start stop text ≡ some content
+      → spanContent sw (wordOf (tableOf words (reading sw words text)) n 9) (wordOf (tableOf words (reading sw words text)) n 10) text ≡ some content
+  words-content start stop content a b c =
+      let x = own-word 0 (omega arith) ∙ a in
+      let y = own-word 1 (omega arith) ∙ b in
+      (λ i. spanContent sw (x i) (y i) text) ∙ c
 
 pub strings-by-words : StringsByWords
 unfolding StringsByWords StringIs scalarWords
 strings-by-words sw words text =
     record {
       text-content = λ n h token content e.
-          let a = own-word sw words text n h (T.text token content) e 0 (omega arith) in
-          let b = own-word sw words text n h (T.text token content) e 1 (omega arith) in
-          (λ i. spanContent sw (a i) (b i) text) ∙ string sw words text n h (T.text token content) e;
+          words-content sw words text n h (T.text token content) e (token .start) (token .stop) content refl refl (string sw words text n h (T.text token content) e);
       bytes-content = λ n h token content e.
-          let a = own-word sw words text n h (T.bytes token content) e 0 (omega arith) in
-          let b = own-word sw words text n h (T.bytes token content) e 1 (omega arith) in
-          (λ i. spanContent sw (a i) (b i) text) ∙ string sw words text n h (T.bytes token content) e;
+          words-content sw words text n h (T.bytes token content) e (token .start) (token .stop) content refl refl (string sw words text n h (T.bytes token content) e);
     }
 
 pub numbers-in-range : NumbersInRange
 unfolding NumbersInRange
-numbers-in-range sw words text n h s e = ranged sw words text n h s e
+numbers-in-range sw words text n h s e = scalar-has sw words text n h s e InRange (λ tree q. reading-ranged sw words text tree q)
 
 -- words 4 and 5 name the key
 key-words : (sw : Switches) (text key table : List ℕ) (n : ℕ) (t : Tree) → Node table n t → contentOfKey sw text (headOf t .key) ≡ some key

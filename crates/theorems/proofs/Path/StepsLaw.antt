@@ -5,7 +5,7 @@ use Prim.Native.Nat.{ℕ, _<_}
 use Prim.Native.Char.{code}
 use native.Mathlib.Omega.{arith}
 use mathlib.Core.Bool.{Bool, true, false, not, cond}
-use mathlib.Core.List.{List, [], _∷_, _++_}
+use mathlib.Core.List.{List, [], _∷_, _++_, append-nil}
 use lib.ListN.{length}
 use borrow.Author.Tests.{eqb-true}
 use Rattle.text.specs.Bytes.{is}
@@ -65,29 +65,24 @@ not-dot : (b : ℕ) (t : Bool) → not (is "." b) ≡ true → is "." b ≡ t �
 not-dot b false h e = refl
 not-dot b true h e = sym (sym (ap not e) ∙ h)
 
--- a step before a separator, or at the end
-step-first : (s rest : List ℕ) → every (λ b. not (is "." b)) s ≡ true → pieces (s ++ (code "." ∷ rest)) ≡ s ∷ pieces rest
+-- bytes of a step before others are the front of the first of these
+before-others : (s r first : List ℕ) (others : List (List ℕ)) → every (λ b. not (is "." b)) s ≡ true → pieces r ≡ first ∷ others
+    → pieces (s ++ r) ≡ (s ++ first) ∷ others
 unfolding pieces every onFirst
-step-first [] rest h = refl
-step-first (b ∷ s) rest h =
-    let e = not-dot b (is "." b) (and-left (not (is "." b)) _ h) refl in
-    ap (λ (t : Bool). cond t ([] ∷ pieces (s ++ (code "." ∷ rest))) (onFirst b (pieces (s ++ (code "." ∷ rest))))) e
-    ∙ ap (onFirst b) (step-first s rest (and-right (not (is "." b)) _ h))
-
-step-alone : (s : List ℕ) → every (λ b. not (is "." b)) s ≡ true → pieces s ≡ s ∷ []
-unfolding pieces every onFirst
-step-alone [] h = refl
-step-alone (b ∷ s) h =
-    let e = not-dot b (is "." b) (and-left (not (is "." b)) _ h) refl in
-    ap (λ (t : Bool). cond t ([] ∷ pieces s) (onFirst b (pieces s))) e ∙ ap (onFirst b) (step-alone s (and-right (not (is "." b)) _ h))
+before-others [] r first others h e = e
+before-others (b ∷ s) r first others h e =
+    let d = not-dot b (is "." b) (and-left (not (is "." b)) _ h) refl in
+    ap (λ (t : Bool). cond t ([] ∷ pieces (s ++ r)) (onFirst b (pieces (s ++ r)))) d
+    ∙ ap (onFirst b) (before-others s r first others (and-right (not (is "." b)) _ h) e)
 
 pieces-joined : (ss : List (List ℕ)) → 0 < length ss → noDots ss ≡ true → pieces (joined ss) ≡ ss
-unfolding joined noDots
+unfolding joined noDots pieces
 pieces-joined [] h d = absurd (omega arith)
-pieces-joined (s ∷ []) h d = step-alone s (and-left (every (λ b. not (is "." b)) s) true d)
+pieces-joined (s ∷ []) h d =
+    subst (λ (l : List ℕ). pieces l ≡ l ∷ []) (append-nil s) (before-others s [] [] [] (and-left (every (λ b. not (is "." b)) s) true d) refl)
 pieces-joined (s ∷ t ∷ ss) h d =
-    step-first s (joined (t ∷ ss)) (and-left (every (λ b. not (is "." b)) s) (noDots (t ∷ ss)) d)
-    ∙ ap (λ (x : List (List ℕ)). s ∷ x) (pieces-joined (t ∷ ss) (omega arith) (and-right (every (λ b. not (is "." b)) s) (noDots (t ∷ ss)) d))
+    before-others s (code "." ∷ joined (t ∷ ss)) [] (pieces (joined (t ∷ ss))) (and-left (every (λ b. not (is "." b)) s) (noDots (t ∷ ss)) d) refl
+    ∙ (λ i. append-nil s i ∷ pieces-joined (t ∷ ss) (omega arith) (and-right (every (λ b. not (is "." b)) s) (noDots (t ∷ ss)) d) i)
 
 -- ---- the claim
 
