@@ -9,7 +9,7 @@ use mathlib.Core.Option.{Option, some}
 use mathlib.Core.List.{List, [], _∷_}
 use Rattle.text.specs.declared.switches.Switches.{Switches}
 use Rattle.text.specs.Bytes.{sameBytes}
-use Rattle.text.proofs.Choice.{cond-true, cond-false}
+use Rattle.text.proofs.Choice.{cond-case, cond-true, cond-false}
 use Rattle.text.proofs.SameLaws.{same-is}
 use Rattle.literals.specs.Content.{sameContent}
 use Rattle.reader.specs.declared.tree.Kind.{Kind}
@@ -49,6 +49,15 @@ scalars-node P t u i e a = inherited (AllScalars P) (AllScalarsIn P) (λ h k f q
 pub keyed-node : (sw : Switches) (text : List ℕ) (t u : Tree) (i : ℕ) → nodeAt t i ≡ some u → AllKeyed sw text t → AllKeyed sw text u
 unfolding AllKeyed
 keyed-node sw text t u i e a = inherited (AllKeyed sw text) (AllKeyedIn sw text) (λ h k f q. q .1) (λ t f r. r) u t i e a
+
+-- and so of the first of values side by side that passes a test
+pub scalars-first : (P : Scalar → Type 0) (p : Tree → Bool) (n : ℕ) (f : Forest) (c : Numbered) → firstThat p n f ≡ some c → AllScalarsIn P f
+    → AllScalars P (c .value)
+unfolding AllScalars firstThat
+scalars-first P p n nil c e a = none-is e
+scalars-first P p n (cons t f) c e a =
+    cond-case (λ (o : Option Numbered). o ≡ some c) (AllScalars P (c .value)) (p t) e
+    (λ _ q. subst (λ (d : Numbered). AllScalars P (d .value)) (some-is q) (a .0)) (λ _ q. scalars-first P p (n + size t) f c q (a .1))
 
 -- ---- the members of an object
 

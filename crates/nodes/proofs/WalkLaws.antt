@@ -91,63 +91,63 @@ nth-ahead table n (suc i) x (cons t f) c A e =
 
 -- ---- the walk over a node's children: what a loop keeps
 
--- The loop has come to x, and what F makes of those ahead is what it makes of all. F is the definition's own recursion over values side
--- by side, the first with the number x; with the loop's accumulators filled in, if it has any.
-pub record Walk (A : Type 0) (F : ℕ → Forest → A) (whole : A) (table : List ℕ) (n x : ℕ) : Type 0 where
+-- The loop has come to x, and P is so of x and of those ahead: as a rule, that the definition's own recursion makes of those ahead what it
+-- makes of all, with the loop's accumulators filled in, if it has any.
+pub record Walk (P : ℕ → Forest → Type 0) (table : List ℕ) (n x : ℕ) : Type 0 where
   pub rest : Forest
   pub ahead : Ahead table n x rest
-  pub same : F x rest ≡ whole
+  pub so : P x rest
 
 -- there is a child at x
-pub record Here (A : Type 0) (F : ℕ → Forest → A) (whole : A) (table : List ℕ) (n x : ℕ) : Type 0 where
+pub record Here (P : ℕ → Forest → Type 0) (table : List ℕ) (n x : ℕ) : Type 0 where
   pub value : Tree
   pub later : Forest
   pub ahead : Ahead table n x (cons value later)
-  pub same : F x (cons value later) ≡ whole
+  pub so : P x (cons value later)
   pub node : Node table x value
   pub next : wordOf table x 8 ≡ x + size value
   pub up : x < wordOf table x 8
   pub within : wordOf table x 8 ≤ wordOf table n 8
 
-module _ (A : Type 0) (F : ℕ → Forest → A) (whole : A) (table : List ℕ) (n : ℕ) where
-  pub walk-start : (t : Tree) → Node table n t → F (n + 1) (childrenOf t) ≡ whole → Walk A F whole table n (n + 1)
-  walk-start t N e = record { rest = childrenOf t; ahead = ahead-all table n t N; same = e }
+module _ (P : ℕ → Forest → Type 0) (table : List ℕ) (n : ℕ) where
+  pub walk-start : (t : Tree) → Node table n t → P (n + 1) (childrenOf t) → Walk P table n (n + 1)
+  walk-start t N p = record { rest = childrenOf t; ahead = ahead-all table n t N; so = p }
 
-  here-by : (x : ℕ) (f : Forest) → Ahead table n x f → F x f ≡ whole → x < wordOf table n 8 → Here A F whole table n x
+  here-by : (x : ℕ) (f : Forest) → Ahead table n x f → P x f → x < wordOf table n 8 → Here P table n x
   unfolding size
-  here-by x nil B e h = let z = B .ends in absurd (omega arith)
-  here-by x (cons t f) B e h =
+  here-by x nil B p h = let z = B .ends in absurd (omega arith)
+  here-by x (cons t f) B p h =
       let w = word-next table x t (ahead-node table n x t f B) in
-      let p = size-pos t in
+      let q = size-pos t in
       let z = B .ends in
       record {
         value = t;
         later = f;
         ahead = B;
-        same = e;
+        so = p;
         node = ahead-node table n x t f B;
         next = w;
         up = omega arith;
         within = omega arith;
       }
 
-  pub walk-here : (x : ℕ) → Walk A F whole table n x → x < wordOf table n 8 → Here A F whole table n x
-  walk-here x W h = here-by x (W .rest) (W .ahead) (W .same) h
+  pub walk-here : (x : ℕ) → Walk P table n x → x < wordOf table n 8 → Here P table n x
+  walk-here x W h = here-by x (W .rest) (W .ahead) (W .so) h
 
-  done-by : (x : ℕ) (f : Forest) → Ahead table n x f → F x f ≡ whole → wordOf table n 8 ≤ x → F x nil ≡ whole
+  done-by : (x : ℕ) (f : Forest) → Ahead table n x f → P x f → wordOf table n 8 ≤ x → P x nil
   unfolding size
-  done-by x nil B e h = e
-  done-by x (cons t f) B e h = let z = B .ends in let p = size-pos t in absurd (omega arith)
+  done-by x nil B p h = p
+  done-by x (cons t f) B p h = let z = B .ends in let q = size-pos t in absurd (omega arith)
 
-  pub walk-done : (x : ℕ) → Walk A F whole table n x → wordOf table n 8 ≤ x → F x nil ≡ whole
-  walk-done x W h = done-by x (W .rest) (W .ahead) (W .same) h
+  pub walk-done : (x : ℕ) → Walk P table n x → wordOf table n 8 ≤ x → P x nil
+  walk-done x W h = done-by x (W .rest) (W .ahead) (W .so) h
 
   -- the words of the child lie in the table
-  pub walk-word : (x end w : ℕ) → Walk A F whole table n x → end ≡ wordOf table n 8 → x < end → w < nodeWords → nodeWords * x + w < length table
+  pub walk-word : (x end w : ℕ) → Walk P table n x → end ≡ wordOf table n 8 → x < end → w < nodeWords → nodeWords * x + w < length table
   walk-word x end w W e h l = let H = walk-here x W (omega arith) in word-in table x (H .value) (H .node) w l
 
   -- and the next one comes after it
-  pub walk-less : (x end y : ℕ) → Walk A F whole table n x → end ≡ wordOf table n 8 → x < end → y ≡ wordOf table x 8 → (x < y) × (y ≤ end)
+  pub walk-less : (x end y : ℕ) → Walk P table n x → end ≡ wordOf table n 8 → x < end → y ≡ wordOf table x 8 → (x < y) × (y ≤ end)
   walk-less x end y W e h q =
       let H = walk-here x W (omega arith) in
       let u = H .up in
@@ -155,7 +155,7 @@ module _ (A : Type 0) (F : ℕ → Forest → A) (whole : A) (table : List ℕ) 
       (omega arith, omega arith)
 
 -- on to the next child, perhaps with other accumulators
-pub walk-next : (A : Type 0) (F G : ℕ → Forest → A) (whole : A) (table : List ℕ) (n x y : ℕ) (H : Here A F whole table n x) → y ≡ wordOf table x 8
-    → G (x + size (H .value)) (H .later) ≡ F x (cons (H .value) (H .later)) → Walk A G whole table n y
-walk-next A F G whole table n x y H e g =
-    rw (e ∙ H .next) (record { rest = H .later; ahead = ahead-next table n x (H .value) (H .later) (H .ahead); same = g ∙ H .same })
+pub walk-next : (P Q : ℕ → Forest → Type 0) (table : List ℕ) (n x y : ℕ) (H : Here P table n x) → y ≡ wordOf table x 8
+    → Q (x + size (H .value)) (H .later) → Walk Q table n y
+walk-next P Q table n x y H e q =
+    rw (e ∙ H .next) (record { rest = H .later; ahead = ahead-next table n x (H .value) (H .later) (H .ahead); so = q })

@@ -13,3 +13,11 @@ pub fn word_of(table: &[u32], n: usize, w: usize) -> usize
 {
     word(table, 12 * n + w)
 }
+
+// The same in its 32 bits.
+pub fn word32_of(table: &[u32], n: usize, w: usize) -> u32
+    requires { ⌜ nodeWords * n + w < length (now table) ⌝ }
+    ensures { λ r. ⌜ r ≡ wordOf (now (table .entry)) n w ⌝ }
+{
+    table[12 * n + w]
+}

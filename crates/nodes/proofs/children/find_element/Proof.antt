@@ -33,10 +33,10 @@ sub-left : tie.Need-sub-left Inv-loop μ-loop
 sub-left c = omega arith
 
 word-of-requires-2 : tie.Need-word-of-requires-2 Inv-loop μ-loop
-word-of-requires-2 c κs = walk-word _ _ _ _ _ _ _ _ (c .before .before .loop .inv .of (c .before .before .before .before .before .pre .value) (c .before .before .before .before .before .pre .node)) (c .before .before .before .word-of .ensures) (omega arith) (omega arith)
+word-of-requires-2 c κs = walk-word _ _ _ _ _ _ (c .before .before .loop .inv .of (c .before .before .before .before .before .pre .value) (c .before .before .before .before .before .pre .node)) (c .before .before .before .word-of .ensures) (omega arith) (omega arith)
 
 loop-less : tie.Need-loop-less Inv-loop μ-loop
-loop-less c = let l = walk-less _ _ _ _ _ _ _ _ (c .before .before .before .loop .inv .of (c .before .before .before .before .before .before .pre .value) (c .before .before .before .before .before .before .pre .node)) (c .before .before .before .before .word-of .ensures) (omega arith) (c .word-of2 .ensures) in omega arith
+loop-less c = let l = walk-less _ _ _ _ _ _ (c .before .before .before .loop .inv .of (c .before .before .before .before .before .before .pre .value) (c .before .before .before .before .before .before .pre .node)) (c .before .before .before .before .word-of .ensures) (omega arith) (c .word-of2 .ensures) in omega arith
 
 loop-again : tie.Need-loop-again Inv-loop μ-loop
 loop-again c = element-on _ _ _ _ _ _ _ (c .before .before .before .loop .inv) (c .before .before .before .before .word-of .ensures) (omega arith) (c .before .if1 .left) (c .word-of2 .ensures)

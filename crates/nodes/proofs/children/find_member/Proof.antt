@@ -3,8 +3,9 @@ use native.Mathlib.Omega.{arith}
 use mathlib.Core.Path.{sym, _∙_}
 use Prim.Native.Nat.{_<_, _+_, _*_, _-_}
 use lib.ListN.{length}
+use Rattle.nodes.specs.Nodes.{hasKey}
 use Rattle.nodes.proofs.WalkLaws.{walk-word, walk-less}
-use Rattle.nodes.proofs.ChildLaws.{stands-word, MemberWalk, member-start, member-hit, member-on, member-end}
+use Rattle.nodes.proofs.ChildLaws.{stands-word, FirstWalk, first-start, member-hit, member-on, member-end}
 use Rattle.nodes.proofs.children.find_member.Statement.{statement}
 use Rattle.nodes.proofs.children.find_member.Tie as tie
 use Rattle.nodes.proofs.children.find_member.Reads as reads
@@ -13,7 +14,7 @@ use Rattle.nodes.proofs.contents.span_content_is.Reads as span-content-
 use Rattle.nodes.proofs.words.word_of.Reads as word-of-reads
 
 abbrev Inv-loop : tie.InvT-loop
-Inv-loop sw text table n key end x₀ x = MemberWalk sw text key table n x
+Inv-loop sw text table n key end x₀ x = FirstWalk (hasKey sw text key) table n x
 
 abbrev μ-loop : tie.MeasureT-loop
 μ-loop sw text table n key end x₀ x = end - x
@@ -25,13 +26,13 @@ add-x : tie.Need-add-x Inv-loop μ-loop
 add-x c = let h = stands-word _ _ (c .before .before .before .before .pre) 8 (omega arith) in omega arith
 
 loop-holds : tie.Need-loop-holds Inv-loop μ-loop
-loop-holds c = member-start _ _ _ _ _
+loop-holds c = first-start _ _ _
 
 word-of-requires-2 : tie.Need-word-of-requires-2 Inv-loop μ-loop
-word-of-requires-2 c κs = walk-word _ _ _ _ _ _ _ _ (c .before .loop .inv .of (c .before .before .before .before .before .before .pre .value) (c .before .before .before .before .before .before .pre .node)) (c .before .before .word-of .ensures) (omega arith) (omega arith)
+word-of-requires-2 c κs = walk-word _ _ _ _ _ _ (c .before .loop .inv .of (c .before .before .before .before .before .before .pre .value) (c .before .before .before .before .before .before .pre .node)) (c .before .before .word-of .ensures) (omega arith) (omega arith)
 
 word-of-requires-3 : tie.Need-word-of-requires-3 Inv-loop μ-loop
-word-of-requires-3 c κs = walk-word _ _ _ _ _ _ _ _ (c .before .before .loop .inv .of (c .before .before .before .before .before .before .before .pre .value) (c .before .before .before .before .before .before .before .pre .node)) (c .before .before .before .word-of .ensures) (omega arith) (omega arith)
+word-of-requires-3 c κs = walk-word _ _ _ _ _ _ (c .before .before .loop .inv .of (c .before .before .before .before .before .before .before .pre .value) (c .before .before .before .before .before .before .before .pre .node)) (c .before .before .before .word-of .ensures) (omega arith) (omega arith)
 
 span-content-is-requires : tie.Need-span-content-is-requires Inv-loop μ-loop
 span-content-is-requires c κs = search needs
@@ -40,10 +41,10 @@ returns : tie.Need-returns Inv-loop μ-loop
 returns c = member-hit _ _ _ _ _ _ _ _ _ _ (c .before .before .before .before .before .loop .inv) (c .before .before .before .before .before .before .word-of .ensures) (omega arith) (c .before .before .before .word-of2 .ensures) (c .before .before .word-of3 .ensures) (c .before .span-content-is .ensures) (c .if1 .taken)
 
 word-of-requires-4 : tie.Need-word-of-requires-4 Inv-loop μ-loop
-word-of-requires-4 c κs = walk-word _ _ _ _ _ _ _ _ (c .before .before .before .before .before .loop .inv .of (c .before .before .before .before .before .before .before .before .before .before .pre .value) (c .before .before .before .before .before .before .before .before .before .before .pre .node)) (c .before .before .before .before .before .before .word-of .ensures) (omega arith) (omega arith)
+word-of-requires-4 c κs = walk-word _ _ _ _ _ _ (c .before .before .before .before .before .loop .inv .of (c .before .before .before .before .before .before .before .before .before .before .pre .value) (c .before .before .before .before .before .before .before .before .before .before .pre .node)) (c .before .before .before .before .before .before .word-of .ensures) (omega arith) (omega arith)
 
 loop-less : tie.Need-loop-less Inv-loop μ-loop
-loop-less c = let l = walk-less _ _ _ _ _ _ _ _ (c .before .before .before .before .before .before .loop .inv .of (c .before .before .before .before .before .before .before .before .before .before .before .pre .value) (c .before .before .before .before .before .before .before .before .before .before .before .pre .node)) (c .before .before .before .before .before .before .before .word-of .ensures) (omega arith) (c .word-of4 .ensures) in omega arith
+loop-less c = let l = walk-less _ _ _ _ _ _ (c .before .before .before .before .before .before .loop .inv .of (c .before .before .before .before .before .before .before .before .before .before .before .pre .value) (c .before .before .before .before .before .before .before .before .before .before .before .pre .node)) (c .before .before .before .before .before .before .before .word-of .ensures) (omega arith) (c .word-of4 .ensures) in omega arith
 
 loop-again : tie.Need-loop-again Inv-loop μ-loop
 loop-again c = member-on _ _ _ _ _ _ _ _ _ _ _ (c .before .before .before .before .before .before .loop .inv) (c .before .before .before .before .before .before .before .word-of .ensures) (omega arith) (c .before .before .before .before .word-of2 .ensures) (c .before .before .before .word-of3 .ensures) (c .before .before .span-content-is .ensures) (c .before .if1 .left) (c .word-of4 .ensures)
