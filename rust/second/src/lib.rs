@@ -22,7 +22,9 @@
 //! and works everything out anew from the corrections in force. [`insertion`]
 //! is document 02's rule on what comments may do to a table, and [`utf8`] its
 //! check that passes over eight plain bytes at a time. [`path`] finds a node by
-//! the keys and indices that lead to it from the root.
+//! the keys and indices that lead to it from the root. [`summary`] counts the
+//! records of a text by what their height is, and gives the least, the greatest
+//! and the mean of the measured ones.
 
 #![forbid(unsafe_code)]
 #![warn(missing_docs)]
@@ -34,6 +36,7 @@ mod nodes;
 mod numbers;
 pub mod path;
 mod strings;
+pub mod summary;
 mod tokens;
 pub mod utf8;
 
@@ -59,7 +62,8 @@ pub const ROW: usize = 12;
 pub struct Refusal {
     /// The paper's number of refusal.
     pub number: u32,
-    /// The place the paper gives for it; for 23 the number of a step.
+    /// The place the paper gives for it; for 21 the number of a node, for 23
+    /// that of a step.
     pub place: u64,
 }
 
