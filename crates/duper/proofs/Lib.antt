@@ -2,3 +2,4 @@
 pub mod NumberLaws
 pub mod ChangeLaws
 pub mod Chained
+pub mod SummaryLaws

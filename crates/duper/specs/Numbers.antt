@@ -1,16 +1,19 @@
--- Answers as numbers: a reading's, those of a correction or an undo, and that of a path. The content call's own is `contentNumber` in the
--- reader's specs/Content.antt.
+-- Answers as numbers: a reading's, those of a correction or an undo, that of a path and those of a summary. The content call's own is
+-- `contentNumber` in the reader's specs/Content.antt.
 -- Assumes nothing.
 use Prim.Native.Nat.{ℕ, _+_, _*_}
 use mathlib.Core.Path.{_≡_}
 use mathlib.Core.Bool.{cond}
 use mathlib.Core.List.{List, [], _∷_}
 use lib.Dec.{eqb}
+use lib.Ieee.{Float}
 use Rattle.reader.specs.Tree.{size}
 use Rattle.reader.specs.Syntax.{Outcome, taken, refused}
 use Rattle.editor.specs.Edit.{Answer, Result}
 use Rattle.path.specs.declared.find.Found.{Found}
 use Rattle.path.specs.declared.find.Found.the-variants as F
+use Rattle.summary.specs.declared.summary.Summary.{Summary}
+use Rattle.summary.specs.declared.summary.Summary.the-variants as S
 
 -- "a C function answering refusal times 4294967296 plus the bytes written": the papers say this of the content call. Reading has a node
 -- count for the bytes written and, when refused, a place ("Numbers of refusal"), and is packed the same way.
@@ -38,3 +41,27 @@ pub record Crosses (result : Result) (number : ℕ) (text journal table answer :
 unfoldable pub foundNumber : Found → ℕ
 foundNumber (F.At node) = node
 foundNumber (F.Refused number place) = number * 4294967296 + place
+
+-- a summary: 0, or a refusal packed the same way
+unfoldable pub summaryNumber : Summary → ℕ
+summaryNumber (S.Measured counts heights) = 0
+summaryNumber (S.Unmeasured counts) = 0
+summaryNumber (S.Refused number place) = number * 4294967296 + place
+
+-- the four counts that the call leaves where these were lent: "A refusal holds no counts or heights", so then they stay
+unfoldable pub summaryCounts : Summary → (lent : List ℕ) → List ℕ
+summaryCounts (S.Measured counts heights) lent = counts .measured ∷ counts .null ∷ counts .absent ∷ counts .unfit ∷ []
+summaryCounts (S.Unmeasured counts) lent = counts .measured ∷ counts .null ∷ counts .absent ∷ counts .unfit ∷ []
+summaryCounts (S.Refused number place) lent = lent
+
+-- the "least, greatest and mean" likewise: "With none it holds no height at all", so then these stay too
+unfoldable pub summaryHeights : Summary → (lent : List Float) → List Float
+summaryHeights (S.Measured counts heights) lent = heights .least ∷ heights .greatest ∷ heights .mean ∷ []
+summaryHeights (S.Unmeasured counts) lent = lent
+summaryHeights (S.Refused number place) lent = lent
+
+-- what a summary shows at the boundary: its number, and what was lent for counts and heights
+pub record SummaryCrosses (result : Summary) (number : ℕ) (lentCounts counts : List ℕ) (lentHeights heights : List Float) : Type 0 where
+  pub number-is : number ≡ summaryNumber result
+  pub counts-are : counts ≡ summaryCounts result lentCounts
+  pub heights-are : heights ≡ summaryHeights result lentHeights

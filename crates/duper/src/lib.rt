@@ -8,13 +8,16 @@ ghost use Rattle.reader.specs.Reading.{reading, tableOf};
 ghost use Rattle.reader.specs.Content.{contentCall, written, contentNumber};
 ghost use Rattle.editor.specs.Edit.{lentOf, correct, undo};
 ghost use Rattle.path.specs.Path.{found};
-ghost use Rattle.duper.specs.Numbers.{readNumber, foundNumber, Crosses};
+ghost use Rattle.summary.specs.Summary.{summary};
+ghost use Rattle.duper.specs.Numbers.{readNumber, foundNumber, Crosses, SummaryCrosses};
 ghost use Rattle.duper.specs.Internal.{verdictNumber, PlaceFits, wordsOf};
 use editor::edit::Change;
 use editor::edit::Verdict;
 use path::find::Found;
 use reader::content::Given;
 use reader::read::Reading;
+use summary::summary::Counts;
+use summary::summary::Summary;
 use text::utf8::check_utf8;
 
 // Checks bytes as UTF-8: the length of their longest front that is. `eights` is then how many times the check passed over eight bytes below
@@ -108,5 +111,32 @@ pub extern "C" fn duper_find(text: &[u8], table: &mut [u32], path: &[u8]) -> u64
     match path::find::find(text, table, path) {
         Found::At(node) => node as u64,
         Found::Refused(number, place) => number as u64 * 4294967296 + place as u64,
+    }
+}
+
+// Reads a text of the present edition into the table, and summarizes it: 0, or else the refusal times 4294967296 plus its place, that of the
+// reading, or 21 and the number of the node that is no array or no object. `counts` is then how many heights are measured, null, absent and
+// unfit, and `heights` the least, the greatest and the mean of the measured ones, in micrometres. A refusal leaves both as they were, and so
+// do no measured heights the `heights`.
+#[no_mangle]
+pub extern "C" fn duper_summary(
+    text: &[u8],
+    table: &mut [u32],
+    counts: &mut [u64; 4],
+    heights: &mut [f64; 3],
+) -> u64
+    ensures { λ r. ⌜ SummaryCrosses (summary presentEdition (now (text .entry)) (reading presentEdition (length (now (table .entry))) (now (text .entry)))) r (now (counts .entry)) (now (counts .exit)) (now (heights .entry)) (now (heights .exit)) × (now (table .exit) ≡ tableOf (length (now (table .entry))) (reading presentEdition (length (now (table .entry))) (now (text .entry)))) ⌝ }
+{
+    match summary::summary::summarize(text, table) {
+        Summary::Measured(c, h) => {
+            *counts = [c.measured, c.null, c.absent, c.unfit];
+            *heights = [h.least, h.greatest, h.mean];
+            0
+        }
+        Summary::Unmeasured(c) => {
+            *counts = [c.measured, c.null, c.absent, c.unfit];
+            0
+        }
+        Summary::Refused(number, place) => number as u64 * 4294967296 + place as u64,
     }
 }

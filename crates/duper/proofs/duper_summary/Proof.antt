@@ -1,0 +1,70 @@
+use native.Mathlib.Omega.{arith}
+use mathlib.Core.Path.{sym, _∙_}
+use native.Mathlib.Omega.{arith}
+use lib.ListN.{length}
+use Rattle.text.specs.Switches.{presentEdition}
+use Rattle.summary.proofs.AnswerLaws.{summary-place}
+use Rattle.duper.proofs.SummaryLaws.{measured-crosses, unmeasured-crosses, refusal-crosses}
+use borrow.Author.Needs.{needs}
+use Rattle.duper.proofs.duper_summary.Statement.{statement}
+use Rattle.duper.proofs.duper_summary.Tie as tie
+use Rattle.duper.proofs.duper_summary.Reads as reads
+use Rattle.duper.proofs.duper_summary.Lts as lts
+use Rattle.summary.proofs.summary.summarize.Reads as summarize-reads
+
+summarize-requires : tie.Need-summarize-requires
+summarize-requires c κs = search needs
+
+enum-known-c : tie.Need-enum-known-c
+enum-known-c c = search needs
+
+enum-known-c-2 : tie.Need-enum-known-c-2
+enum-known-c-2 c = search needs
+
+enum-known-number : tie.Need-enum-known-number
+enum-known-number c = search needs
+
+cast-result : tie.Need-cast-result
+cast-result c = omega arith
+
+mul-result : tie.Need-mul-result
+mul-result c = omega arith
+
+add-result : tie.Need-add-result
+add-result c = omega (arith, summary-place presentEdition (length (c .before .before .before .before .before .before .before .before .before .args .table .now)) (c .before .before .before .before .before .before .before .before .before .args .text .now) _ _ (sym (c .before .number .given .1) ∙ c .before .before .before .before .before .summarize .ensures .0))
+
+same-length : tie.Need-same-length
+same-length c = omega arith
+
+returns : tie.Need-returns
+returns c = (measured-crosses _ _ _ _ _ (sym (c .before .before .before .c .given .1) ∙ c .before .before .before .before .before .before .before .summarize .ensures .0), c .before .before .before .before .before .before .before .summarize .ensures .1)
+
+same-length-2 : tie.Need-same-length-2
+same-length-2 c = omega arith
+
+returns-2 : tie.Need-returns-2
+returns-2 c = (unmeasured-crosses _ _ _ _ (sym (c .before .before .c2 .given .1) ∙ c .before .before .before .before .before .before .summarize .ensures .0), c .before .before .before .before .before .before .summarize .ensures .1)
+
+same-length-3 : tie.Need-same-length-3
+same-length-3 c = omega arith
+
+returns-3 : tie.Need-returns-3
+returns-3 c = (refusal-crosses _ _ _ _ _ (sym (c .before .number .given .1) ∙ c .before .before .before .before .before .summarize .ensures .0), c .before .before .before .before .before .summarize .ensures .1)
+
+pub duper-summary-spec : {M : Type 1} → statement M
+duper-summary-spec =
+    tie.close
+    (tie.spec
+    summarize-requires
+    enum-known-c
+    enum-known-c-2
+    enum-known-number
+    cast-result
+    mul-result
+    add-result
+    same-length
+    returns
+    same-length-2
+    returns-2
+    same-length-3
+    returns-3)
