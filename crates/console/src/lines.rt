@@ -2,12 +2,12 @@
 use libc::STDOUT_FILENO;
 
 // A number and what stands after it; false where they can't be written.
-fn print_number(n: u64, after: &[u8]) -> bool {
+pub fn print_number(n: u64, after: &[u8]) -> bool {
     io::print_decimal(STDOUT_FILENO, n) && io::write_all(STDOUT_FILENO, after)
 }
 
 // Whether a line is written; a failure is said here, right after the write, while errno still tells its reason.
-fn is_told(is_written: bool) -> bool {
+pub fn is_told(is_written: bool) -> bool {
     if !is_written {
         os::fail(b"standard output");
     }
@@ -30,5 +30,14 @@ pub fn refused(number: u8, place: usize) -> bool {
         io::write_all(STDOUT_FILENO, b"refused ")
             && print_number(number as u64, b" ")
             && print_number(place as u64, b"\n"),
+    )
+}
+
+// The line of a count, with its name before it.
+pub fn count(name: &[u8], n: u64) -> bool {
+    is_told(
+        io::write_all(STDOUT_FILENO, name)
+            && io::write_all(STDOUT_FILENO, b" ")
+            && print_number(n, b"\n"),
     )
 }

@@ -1,6 +1,6 @@
 -- A summary at the boundary, by what the code answered.
 -- Assumes nothing.
-use mathlib.Core.Path.{_≡_, refl, sym, ap, _∙_, subst}
+use mathlib.Core.Path.{_≡_, ap}
 use Prim.Native.Nat.{ℕ, _+_, _*_}
 use mathlib.Core.List.{List, [], _∷_}
 use lib.Ieee.{Float}
@@ -11,7 +11,7 @@ use Rattle.summary.specs.declared.summary.Summary.the-variants as S
 use Rattle.duper.specs.Numbers.{summaryNumber, summaryCounts, summaryHeights, SummaryCrosses}
 
 module _ (a : Summary) (lent : List ℕ) (floats : List Float) where
-  pub measured-crosses : (c : Counts) (h : Heights) → S.Measured c h ≡ a
+  pub measured-crosses : (c : Counts) (h : Heights) → S.WithHeights c h ≡ a
       → SummaryCrosses a 0 lent (c .measured ∷ c .null ∷ c .absent ∷ c .unfit ∷ []) floats (h .least ∷ h .greatest ∷ h .mean ∷ [])
   unfolding summaryNumber summaryCounts summaryHeights
   measured-crosses c h e =
@@ -21,7 +21,7 @@ module _ (a : Summary) (lent : List ℕ) (floats : List Float) where
         heights-are = ap (λ (x : Summary). summaryHeights x floats) e;
       }
 
-  pub unmeasured-crosses : (c : Counts) → S.Unmeasured c ≡ a → SummaryCrosses a 0 lent (c .measured ∷ c .null ∷ c .absent ∷ c .unfit ∷ []) floats floats
+  pub unmeasured-crosses : (c : Counts) → S.WithoutHeights c ≡ a → SummaryCrosses a 0 lent (c .measured ∷ c .null ∷ c .absent ∷ c .unfit ∷ []) floats floats
   unfolding summaryNumber summaryCounts summaryHeights
   unmeasured-crosses c e =
       record {

@@ -44,20 +44,20 @@ foundNumber (F.Refused number place) = number * 4294967296 + place
 
 -- a summary: 0, or a refusal packed the same way
 unfoldable pub summaryNumber : Summary → ℕ
-summaryNumber (S.Measured counts heights) = 0
-summaryNumber (S.Unmeasured counts) = 0
+summaryNumber (S.WithHeights counts heights) = 0
+summaryNumber (S.WithoutHeights counts) = 0
 summaryNumber (S.Refused number place) = number * 4294967296 + place
 
 -- the four counts that the call leaves where these were lent: "A refusal holds no counts or heights", so then they stay
 unfoldable pub summaryCounts : Summary → (lent : List ℕ) → List ℕ
-summaryCounts (S.Measured counts heights) lent = counts .measured ∷ counts .null ∷ counts .absent ∷ counts .unfit ∷ []
-summaryCounts (S.Unmeasured counts) lent = counts .measured ∷ counts .null ∷ counts .absent ∷ counts .unfit ∷ []
+summaryCounts (S.WithHeights counts heights) lent = counts .measured ∷ counts .null ∷ counts .absent ∷ counts .unfit ∷ []
+summaryCounts (S.WithoutHeights counts) lent = counts .measured ∷ counts .null ∷ counts .absent ∷ counts .unfit ∷ []
 summaryCounts (S.Refused number place) lent = lent
 
 -- the "least, greatest and mean" likewise: "With none it holds no height at all", so then these stay too
 unfoldable pub summaryHeights : Summary → (lent : List Float) → List Float
-summaryHeights (S.Measured counts heights) lent = heights .least ∷ heights .greatest ∷ heights .mean ∷ []
-summaryHeights (S.Unmeasured counts) lent = lent
+summaryHeights (S.WithHeights counts heights) lent = heights .least ∷ heights .greatest ∷ heights .mean ∷ []
+summaryHeights (S.WithoutHeights counts) lent = lent
 summaryHeights (S.Refused number place) lent = lent
 
 -- what a summary shows at the boundary: its number, and what was lent for counts and heights

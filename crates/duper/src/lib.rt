@@ -128,12 +128,12 @@ pub extern "C" fn duper_summary(
     ensures { λ r. ⌜ SummaryCrosses (summary presentEdition (now (text .entry)) (reading presentEdition (length (now (table .entry))) (now (text .entry)))) r (now (counts .entry)) (now (counts .exit)) (now (heights .entry)) (now (heights .exit)) × (now (table .exit) ≡ tableOf (length (now (table .entry))) (reading presentEdition (length (now (table .entry))) (now (text .entry)))) ⌝ }
 {
     match summary::summary::summarize(text, table) {
-        Summary::Measured(c, h) => {
+        Summary::WithHeights(c, h) => {
             *counts = [c.measured, c.null, c.absent, c.unfit];
             *heights = [h.least, h.greatest, h.mean];
             0
         }
-        Summary::Unmeasured(c) => {
+        Summary::WithoutHeights(c) => {
             *counts = [c.measured, c.null, c.absent, c.unfit];
             0
         }

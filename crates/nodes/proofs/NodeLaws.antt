@@ -13,7 +13,7 @@ use lib.ListN.{length, getD, replicate, length-append}
 use lib.Dec.{ltb}
 use borrow.Author.Tests.{lt-ltb, le-ltb, ltb-true, ltb-false}
 use Rattle.text.proofs.Choice.{cond-case, cond-true, cond-false}
-use Rattle.reader.specs.Tree.{Tree, leaf, branch, Forest, nil, cons, size, sizes, count, rows, padded, noParent}
+use Rattle.reader.specs.Tree.{Tree, leaf, branch, Forest, nil, cons, size, sizes, rows, padded, noParent}
 use Rattle.reader.specs.Syntax.{Outcome, taken, refused}
 use Rattle.reader.specs.Reading.{tableOf, wordOf, nodeCount}
 use Rattle.reader.proofs.TableLaws.{length-rows}

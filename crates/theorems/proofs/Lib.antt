@@ -5,4 +5,5 @@ pub mod Insertion
 pub mod Nesting
 pub mod NodeLaws
 pub mod Path
+pub mod Summary
 pub mod CallLaws

@@ -5,5 +5,6 @@ pub mod Insertion
 pub mod Nesting
 pub mod Nodes
 pub mod Path
+pub mod Summary
 pub mod Calls
 pub mod Example

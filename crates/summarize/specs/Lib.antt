@@ -1,0 +1,2 @@
+-- The definitions that the contracts of `summarize` cite.
+pub mod Heights

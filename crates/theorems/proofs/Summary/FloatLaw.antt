@@ -1,0 +1,256 @@
+-- The three heights as numbers: one of the measured ones and none below it or above it; as floats still whole; and the mean between them.
+-- Assumes nothing.
+use mathlib.Core.Path.{_≡_, refl, sym, ap, _∙_, subst}
+use Prim.Native.Nat.{ℕ, suc, _+_, _*_, _≤_, _<_, min, max}
+use native.Mathlib.Nat.{mul-assoc, mul-comm, mul-left-comm, mul-one, mul-pos}
+use native.Mathlib.Decide.{decLt}
+use native.Mathlib.Omega.{arith}
+use mathlib.Core.Bool.{true, false, not, cond, true≢false}
+use mathlib.Core.Logic.{_⊎_, inl, inr}
+use mathlib.Core.Option.{Option, none, some}
+use mathlib.Core.List.{List, [], _∷_}
+use lib.Dec.{T, eqb}
+use lib.ListN.{length}
+use lib.IntN.{ℤ, pos, negsuc}
+use lib.Pow.{pow-pos}
+use lib.Ieee.{Float, nan, inf, fin, binary64, up, down, round, div, ofInt, le}
+use lib.Ieee.Back.{round-whole}
+use lib.Ieee.Order.{round-mono}
+use lib.Ieee.Positive.{first-pos}
+use lib.Ieee.Scale.{round-same}
+use borrow.Author.Tests.{ne-eqb}
+use Rattle.text.specs.declared.switches.Switches.{Switches}
+use Rattle.text.proofs.Choice.{cond-case, cond-false}
+use Rattle.reader.specs.Tree.{Tree, Forest}
+use Rattle.nodes.specs.Nodes.{childrenOf, Numbered, firstThat}
+use Rattle.summary.specs.Summary.{recordHeights, isMeasured, countsOf, measuredHeights, least, greatest, sumOf, asFloat, mean, heightsOf, summaryOf, ofHeights, isObject, isArray, ofRecords, ofRoot, summary}
+use Rattle.summary.specs.declared.heights.Height.{Height}
+use Rattle.summary.specs.declared.heights.Height.the-variants as H
+use Rattle.summary.specs.declared.summary.Counts.{Counts}
+use Rattle.summary.specs.declared.summary.Heights.{Heights}
+use Rattle.summary.specs.declared.summary.Summary.{Summary}
+use Rattle.summary.specs.declared.summary.Summary.the-variants as S
+use Rattle.summary.proofs.SummaryLaws.{Low, heights-low, measured-length}
+use Rattle.summary.proofs.AnswerLaws.{measured-few}
+use Rattle.theorems.specs.Summary.{Holds, ExtremesHeld, Is, Floats, HeightsHeld, MissingApart}
+
+-- ---- the least and the greatest
+
+min-case : (u v : ℕ) → (min u v ≡ u) ⊎ (min u v ≡ v)
+min-case u v = elim (decLt u v) [ yes h ↦ inl (omega arith) | no h ↦ inr (omega arith) ]
+
+max-case : (u v : ℕ) → (max u v ≡ u) ⊎ (max u v ≡ v)
+max-case u v = elim (decLt u v) [ yes h ↦ inr (omega arith) | no h ↦ inl (omega arith) ]
+
+-- what one of two and a list holds, both and the list hold
+either-held : (x u v w : ℕ) (l : List ℕ) → (w ≡ u) ⊎ (w ≡ v) → Holds x (w ∷ l) → Holds x (u ∷ v ∷ l)
+unfolding Holds
+either-held x u v w l (inl e) (inl q) = inl (q ∙ e)
+either-held x u v w l (inr e) (inl q) = inr (inl (q ∙ e))
+either-held x u v w l (inl e) (inr h) = inr (inr h)
+either-held x u v w l (inr e) (inr h) = inr (inr h)
+
+held-first : (u : ℕ) (l : List ℕ) → Holds u (u ∷ l)
+unfolding Holds
+held-first u l = inl refl
+
+least-held : (u : ℕ) (l : List ℕ) → Holds (least u l) (u ∷ l)
+unfolding least
+least-held u [] = held-first u []
+least-held u (v ∷ l) = either-held (least (min u v) l) u v (min u v) l (min-case u v) (least-held (min u v) l)
+
+greatest-held : (u : ℕ) (l : List ℕ) → Holds (greatest u l) (u ∷ l)
+unfolding greatest
+greatest-held u [] = held-first u []
+greatest-held u (v ∷ l) = either-held (greatest (max u v) l) u v (max u v) l (max-case u v) (greatest-held (max u v) l)
+
+least-all : (u : ℕ) (l : List ℕ) (v : ℕ) → Holds v (u ∷ l) → least u l ≤ v
+unfolding least Holds
+least-all u [] v (inl e) = omega arith
+least-all u [] v (inr h) = absurd h
+least-all u (w ∷ l) v (inl e) = let q = least-all (min u w) l (min u w) (inl refl) in omega arith
+least-all u (w ∷ l) v (inr (inl e)) = let q = least-all (min u w) l (min u w) (inl refl) in omega arith
+least-all u (w ∷ l) v (inr (inr h)) = least-all (min u w) l v (inr h)
+
+greatest-all : (u : ℕ) (l : List ℕ) (v : ℕ) → Holds v (u ∷ l) → v ≤ greatest u l
+unfolding greatest Holds
+greatest-all u [] v (inl e) = omega arith
+greatest-all u [] v (inr h) = absurd h
+greatest-all u (w ∷ l) v (inl e) = let q = greatest-all (max u w) l (max u w) (inl refl) in omega arith
+greatest-all u (w ∷ l) v (inr (inl e)) = let q = greatest-all (max u w) l (max u w) (inl refl) in omega arith
+greatest-all u (w ∷ l) v (inr (inr h)) = greatest-all (max u w) l v (inr h)
+
+pub extremes-held : ExtremesHeld
+unfolding ExtremesHeld
+extremes-held u l =
+    record {
+      least-held = least-held u l;
+      least-all = λ v h. least-all u l v h;
+      greatest-held = greatest-held u l;
+      greatest-all = λ v h. greatest-all u l v h;
+    }
+
+-- ---- the sum
+
+times-suc : (x n : ℕ) → x * suc n ≡ x + x * n
+times-suc x n = omega arith
+
+sum-above : (x : ℕ) (l : List ℕ) → ((v : ℕ) → Holds v l → x ≤ v) → x * length l ≤ sumOf l
+unfolding sumOf Holds
+sum-above x [] h = omega arith
+sum-above x (u ∷ l) h =
+    let a = h u (inl refl) in
+    let b = sum-above x l (λ v q. h v (inr q)) in
+    let e = times-suc x (length l) in
+    omega arith
+
+sum-below : (x : ℕ) (l : List ℕ) → ((v : ℕ) → Holds v l → v ≤ x) → sumOf l ≤ x * length l
+unfolding sumOf Holds
+sum-below x [] h = omega arith
+sum-below x (u ∷ l) h =
+    let a = h u (inl refl) in
+    let b = sum-below x l (λ v q. h v (inr q)) in
+    let e = times-suc x (length l) in
+    omega arith
+
+low-held : (l : List ℕ) → Low l → (v : ℕ) → Holds v l → v ≤ 10000000
+unfolding Low Holds
+low-held [] w v h = absurd h
+low-held (u ∷ l) w v (inl e) = let q = w .0 in omega arith
+low-held (u ∷ l) w v (inr h) = low-held l (w .1) v h
+
+-- ---- floats
+
+whole : (n : ℕ) → n ≤ 9007199254740992 → Is (asFloat n) n
+unfolding ofInt
+whole n h = round-whole binary64 false n h
+
+down-pos : (e : ℤ) → 0 < down e
+down-pos (pos k) = omega arith
+down-pos (negsuc k) = pow-pos (suc k)
+
+-- a / 1 divided by b / 1
+cross : (A D B E a b : ℕ) → A * 1 ≡ a * D → B * 1 ≡ b * E → A * E * b ≡ a * (B * D)
+cross A D B E a b p q =
+    let x : A ≡ a * D = sym (mul-one A) ∙ p in
+    let y : b * E ≡ B = sym q ∙ mul-one B in
+    let z : a * D * E * b ≡ a * (b * E * D) = simp (mul-assoc, mul-comm, mul-left-comm) in
+    (λ i. x i * E * b) ∙ z ∙ (λ i. a * (y i * D))
+
+-- whole numbers as floats, divided: their exactQuotient, rounded once
+div-whole : (x y : Float) (a b : ℕ) → Is x a → Is y b → 0 < b → div binary64 x y ≡ round binary64 false a b
+unfolding div
+div-whole nan y a b p q h = absurd p
+div-whole (inf s) y a b p q h = absurd p
+div-whole (fin s m e) nan a b p q h = absurd q
+div-whole (fin s m e) (inf t) a b p q h = absurd q
+div-whole (fin true m e) (fin t n d) a b p q h = absurd (true≢false (p .0))
+div-whole (fin false m e) (fin true n d) a b p q h = absurd (true≢false (q .0))
+div-whole (fin false m e) (fin false n d) a b p q h =
+    let w = mul-pos h (down-pos d) in
+    let k = q .1 in
+    let u : 0 < n * up d = omega arith in
+    let z = first-pos n (up d) u in
+    cond-false (eqb n 0) (cond (eqb m 0) nan (inf false)) (round binary64 false (m * up e * down d) (n * up d * down e)) (ne-eqb n 0 (λ f. omega arith))
+    ∙ round-same binary64 false (m * up e * down d) (n * up d * down e) a b (mul-pos u (down-pos e)) h
+    (cross (m * up e) (down e) (n * up d) (down d) a b (p .1) (q .1))
+
+rounded-up : (x a b : ℕ) → 0 < b → x * b ≤ a * 1 → T (le (asFloat x) (round binary64 false a b))
+unfolding ofInt
+rounded-up x a b h l = round-mono binary64 x 1 a b (omega arith) h l
+
+rounded-down : (x a b : ℕ) → 0 < b → a * 1 ≤ x * b → T (le (round binary64 false a b) (asFloat x))
+unfolding ofInt
+rounded-down x a b h l = round-mono binary64 a b x 1 h (omega arith) l
+
+-- the heights of a list whose sum a float holds
+floats-of : (u : ℕ) (l : List ℕ) → Low (u ∷ l) → length (u ∷ l) ≤ 4096 → Floats (heightsOf u l) u l
+unfolding heightsOf mean
+floats-of u l w h =
+    let a = low-held (u ∷ l) w (least u l) (least-held u l) in
+    let b = low-held (u ∷ l) w (greatest u l) (greatest-held u l) in
+    let s = sum-below 10000000 (u ∷ l) (low-held (u ∷ l) w) in
+    let lower : least u l * length (u ∷ l) ≤ sumOf (u ∷ l) * 1 = let q = sum-above (least u l) (u ∷ l) (least-all u l) in omega arith in
+    let upper : sumOf (u ∷ l) * 1 ≤ greatest u l * length (u ∷ l) = let q = sum-below (greatest u l) (u ∷ l) (greatest-all u l) in omega arith in
+    let m = div-whole (asFloat (sumOf (u ∷ l))) (asFloat (length (u ∷ l))) (sumOf (u ∷ l)) (length (u ∷ l)) (whole (sumOf (u ∷ l)) (omega arith))
+    (whole (length (u ∷ l)) (omega arith)) (omega arith) in
+    record {
+      least-is = whole (least u l) (omega arith);
+      greatest-is = whole (greatest u l) (omega arith);
+      mean-is = m;
+      not-below = subst (λ (x : Float). T (le (asFloat (least u l)) x)) (sym m) (rounded-up (least u l) (sumOf (u ∷ l)) (length (u ∷ l)) (omega arith) lower);
+      not-above = subst (λ (x : Float). T (le x (asFloat (greatest u l)))) (sym m) (rounded-down (greatest u l) (sumOf (u ∷ l)) (length (u ∷ l)) (omega arith) upper);
+    }
+
+-- ---- an answer
+
+-- what a summary of records holds, by their measured heights
+held-by : (hs : List Height) (c : Counts) (h : Heights) (l : List ℕ) → measuredHeights hs ≡ l → summaryOf (countsOf hs) l ≡ S.WithHeights c h
+    → (u : ℕ) × (k : List ℕ) × (measuredHeights hs ≡ u ∷ k) × (c ≡ countsOf hs) × (h ≡ heightsOf u k)
+unfolding summaryOf
+held-by hs c h [] e q = let v : _≡_ {A = ℕ} 0 1 = cc in absurd (omega arith)
+held-by hs c h (u ∷ k) e q = (u, k, e, cc, cc)
+
+none-by : (hs : List Height) (c : Counts) (l : List ℕ) → measuredHeights hs ≡ l → summaryOf (countsOf hs) l ≡ S.WithoutHeights c
+    → (measuredHeights hs ≡ []) × (c ≡ countsOf hs)
+unfolding summaryOf
+none-by hs c [] e q = (e, cc)
+none-by hs c (u ∷ k) e q = let v : _≡_ {A = ℕ} 0 1 = cc in absurd (omega arith)
+
+-- a root's summary that is no refusal is that of its records
+module _ (sw : Switches) (text : List ℕ) (a : Summary) (no-refusal : (number place : ℕ) → S.Refused number place ≡ a → ⊥) where
+  of-records : (f : Forest) (o : Option Numbered) → ofRecords sw text f o ≡ a → ofHeights (recordHeights sw text f) ≡ a
+  unfolding ofRecords
+  of-records f none e = e
+  of-records f (some c) e = absurd (no-refusal 21 (c .number) e)
+
+  of-root : (tree : Tree) → ofRoot sw text tree ≡ a → ofHeights (recordHeights sw text (childrenOf tree)) ≡ a
+  unfolding ofRoot
+  of-root tree e =
+      cond-case (λ (s : Summary). s ≡ a) (ofHeights (recordHeights sw text (childrenOf tree)) ≡ a) (isArray tree) e
+      (λ _ f. of-records (childrenOf tree) (firstThat (λ c. not (isObject c)) 1 (childrenOf tree)) f) (λ _ f. absurd (no-refusal 21 0 f))
+
+measured-is : (c : Counts) (h : Heights) (number place : ℕ) → S.Refused number place ≡ S.WithHeights c h → ⊥
+measured-is c h number place e = let v : _≡_ {A = ℕ} 0 1 = cc in omega arith
+
+unmeasured-is : (c : Counts) (number place : ℕ) → S.Refused number place ≡ S.WithoutHeights c → ⊥
+unmeasured-is c number place e = let v : _≡_ {A = ℕ} 0 1 = cc in omega arith
+
+pub heights-held : HeightsHeld
+unfolding HeightsHeld summary ofHeights countsOf
+heights-held sw words text =
+    record {
+      some-measured = λ c h tree e r.
+          let hs = recordHeights sw text (childrenOf tree) in
+          let g = held-by hs c h (measuredHeights hs) refl (of-root sw text (S.WithHeights c h) (measured-is c h) tree (sym (ap (summary sw text) r) ∙ e)) in
+          let n : c .measured ≡ length (g .0 ∷ g .1) = ap (λ (x : Counts). x .measured) (g .3) ∙ measured-length hs ∙ ap (λ (x : List ℕ). length x) (g .2) in
+          let few = measured-few sw words text c h (sym e) in (
+            g .0,
+            g .1,
+            g .2,
+            n,
+            subst (λ (x : Heights). Floats x (g .0) (g .1)) (sym (g .4))
+                (floats-of (g .0) (g .1) (subst Low (g .2) (heights-low sw text (childrenOf tree))) (omega arith)),
+          );
+      none-measured = λ c tree e r.
+          let hs = recordHeights sw text (childrenOf tree) in
+          let g = none-by hs c (measuredHeights hs) refl (of-root sw text (S.WithoutHeights c) (unmeasured-is c) tree (sym (ap (summary sw text) r) ∙ e)) in
+          (g .0, ap (λ (x : Counts). x .measured) (g .1) ∙ measured-length hs ∙ ap (λ (x : List ℕ). length x) (g .0));
+    }
+
+-- ---- missing heights
+
+missing-first : (h : Height) (ks : List Height) → isMeasured h ≡ false → measuredHeights (h ∷ ks) ≡ measuredHeights ks
+unfolding isMeasured measuredHeights
+missing-first (H.Measured u) ks e = absurd (true≢false e)
+missing-first H.Null ks e = refl
+missing-first H.Absent ks e = refl
+missing-first H.Unfit ks e = refl
+
+pub missing-apart : MissingApart
+unfolding MissingApart measuredHeights
+missing-apart [] ks h e = missing-first h ks e
+missing-apart (H.Measured u ∷ hs) ks h e = ap (λ (l : List ℕ). u ∷ l) (missing-apart hs ks h e)
+missing-apart (H.Null ∷ hs) ks h e = missing-apart hs ks h e
+missing-apart (H.Absent ∷ hs) ks h e = missing-apart hs ks h e
+missing-apart (H.Unfit ∷ hs) ks h e = missing-apart hs ks h e

@@ -1,0 +1,240 @@
+-- Which texts have a summary, which node 21 names, and that the counts add up.
+-- Assumes nothing.
+use mathlib.Core.Path.{_≡_, refl, sym, ap, _∙_}
+use Prim.Native.Nat.{ℕ, zero, suc, _+_, _≤_, _<_}
+use native.Mathlib.Omega.{arith}
+use mathlib.Core.Bool.{Bool, true, false, not}
+use mathlib.Core.Option.{Option, none, some}
+use mathlib.Core.List.{List, [], _∷_}
+use lib.Dec.{eqb}
+use borrow.Author.Tests.{eqb-true, eq-eqb, ne-eqb, not-false}
+use Rattle.text.specs.declared.switches.Switches.{Switches}
+use Rattle.text.specs.Bytes.{ascii}
+use Rattle.text.proofs.Choice.{cond-case, cond-true, cond-false}
+use Rattle.reader.specs.Tree.{Tree, leaf, branch, Forest, nil, cons, size, count}
+use Rattle.reader.specs.Syntax.{Outcome, taken, refused}
+use Rattle.reader.specs.Reading.{reading, nodeCount, tableOf, wordOf}
+use Rattle.reader.proofs.NumberBound.{NumberWithin, number-law}
+use Rattle.nodes.specs.Nodes.{kindOf, childrenOf, hasKey, Numbered, numbered, firstThat, nth, member, element}
+use Rattle.nodes.proofs.WordLaws.{some-is, none-is, size-pos, scalar-high, ownWord, word-count}
+use Rattle.nodes.proofs.NodeLaws.{root-node, node-root, node-fits, node-taken, child-node, first-among}
+use Rattle.nodes.proofs.KeyLaws.{only-member}
+use Rattle.summary.specs.Summary.{memberHeight, recordHeight, recordHeights, countsOf, measuredHeights, summaryOf, ofHeights, isObject, isArray, ofRecords, ofRoot, summary}
+use Rattle.summary.specs.declared.summary.Counts.{Counts}
+use Rattle.summary.specs.declared.summary.Summary.{Summary}
+use Rattle.summary.specs.declared.summary.Summary.the-variants as S
+use Rattle.summary.proofs.RecordLaws.{any-number}
+use Rattle.summary.proofs.SummaryLaws.{counts-add-up}
+use Rattle.summary.proofs.AnswerLaws.{recordsOf, heights-length}
+use Rattle.theorems.specs.Summary.{countsIn, Records, FirstOther, SummariesAnswered, RecordsRead, CountsAddUp}
+
+-- ---- the first that passes a test, and the i-th
+
+module _ (p : Tree → Bool) where
+  -- if none passes, the i-th does not
+  none-passes : (n : ℕ) (f : Forest) (i : ℕ) (c : Numbered) → firstThat p n f ≡ none → nth i n f ≡ some c → p (c .value) ≡ false
+  unfolding firstThat nth
+  none-passes n nil i c e q = none-is q
+  none-passes n (cons t f) zero c e q =
+      cond-case (λ (o : Option Numbered). o ≡ none) (p (c .value) ≡ false) (p t) e (λ _ g. none-is (sym g))
+      (λ z _. ap (λ (d : Numbered). p (d .value)) (sym (some-is q)) ∙ z)
+  none-passes n (cons t f) (suc i) c e q =
+      cond-case (λ (o : Option Numbered). o ≡ none) (p (c .value) ≡ false) (p t) e (λ _ g. none-is (sym g)) (λ _ g. none-passes (n + size t) f i c g q)
+
+  all-fail : (n : ℕ) (f : Forest) → ((i : ℕ) (c : Numbered) → nth i n f ≡ some c → p (c .value) ≡ false) → firstThat p n f ≡ none
+  unfolding firstThat nth
+  all-fail n nil h = refl
+  all-fail n (cons t f) h =
+      cond-false (p t) (some (numbered n t)) (firstThat p (n + size t) f) (h 0 (numbered n t) refl) ∙ all-fail (n + size t) f (λ i c q. h (suc i) c q)
+
+  first-passes : (n : ℕ) (f : Forest) (i : ℕ) (c : Numbered) → nth i n f ≡ some c → p (c .value) ≡ true
+      → ((j : ℕ) (d : Numbered) → j < i → nth j n f ≡ some d → p (d .value) ≡ false) → firstThat p n f ≡ some c
+  unfolding firstThat nth
+  first-passes n nil i c q y h = none-is q
+  first-passes n (cons t f) zero c q y h =
+      cond-true (p t) (some (numbered n t)) (firstThat p (n + size t) f) (ap (λ (d : Numbered). p (d .value)) (some-is q) ∙ y) ∙ q
+  first-passes n (cons t f) (suc i) c q y h =
+      cond-false (p t) (some (numbered n t)) (firstThat p (n + size t) f) (h 0 (numbered n t) (omega arith) refl)
+      ∙ first-passes (n + size t) f i c q y (λ j d l r. h (suc j) d (omega arith) r)
+
+-- ---- by kind
+
+isOther : Tree → Bool
+isOther t = not (isObject t)
+
+object-kind : (t : Tree) → isOther t ≡ false → kindOf t ≡ 1
+unfolding isOther isObject
+object-kind t e = eqb-true (kindOf t) 1 (not-false (eqb (kindOf t) 1) e)
+
+kind-object : (t : Tree) → kindOf t ≡ 1 → isOther t ≡ false
+unfolding isOther isObject
+kind-object t e = ap not (eq-eqb (kindOf t) 1 e)
+
+kind-other : (t : Tree) → (kindOf t ≡ 1 → ⊥) → isOther t ≡ true
+unfolding isOther isObject
+kind-other t n = ap not (ne-eqb (kindOf t) 1 n)
+
+-- ---- the counts in an answer
+
+with-counts : (c : Counts) (l : List ℕ) → countsIn (summaryOf c l) ≡ some c
+unfolding countsIn summaryOf
+with-counts c [] = refl
+with-counts c (u ∷ l) = refl
+
+-- ---- the answer
+
+module _ (sw : Switches) (text : List ℕ) where
+  -- of a tree whose root is an array
+  of-elements : Tree → Summary
+  of-elements t = ofRecords sw text (childrenOf t) (firstThat isOther 1 (childrenOf t))
+
+  by-array : (t : Tree) → kindOf t ≡ 2 → ofRoot sw text t ≡ of-elements t
+  unfolding ofRoot isArray of-elements isOther
+  by-array t e = cond-true (eqb (kindOf t) 2) (of-elements t) (S.Refused 21 0) (eq-eqb (kindOf t) 2 e)
+
+  by-other : (t : Tree) → (kindOf t ≡ 2 → ⊥) → ofRoot sw text t ≡ S.Refused 21 0
+  unfolding ofRoot isArray of-elements isOther
+  by-other t n = cond-false (eqb (kindOf t) 2) (of-elements t) (S.Refused 21 0) (ne-eqb (kindOf t) 2 n)
+
+  by-element : (t : Tree) (i : ℕ) (c : Numbered) → FirstOther t i c → of-elements t ≡ S.Refused 21 (c .number)
+  unfolding of-elements ofRecords element
+  by-element t i c F =
+      ap (ofRecords sw text (childrenOf t))
+      (first-passes isOther 1 (childrenOf t) i c (F .there) (kind-other (c .value) (F .other)) (λ j d l q. kind-object (d .value) (F .before j d l q)))
+
+  by-records : (t : Tree) → Records t → of-elements t ≡ ofHeights (recordHeights sw text (childrenOf t))
+  unfolding of-elements ofRecords element
+  by-records t R = ap (ofRecords sw text (childrenOf t)) (all-fail isOther 1 (childrenOf t) (λ i c q. kind-object (c .value) (R .objects i c q)))
+
+  -- the counts of a root
+  counted-by : (t : Tree) (c : Counts) (o : Option Numbered) → firstThat isOther 1 (childrenOf t) ≡ o → countsIn (ofRecords sw text (childrenOf t) o) ≡ some c
+      → ((i : ℕ) (d : Numbered) → element i 0 t ≡ some d → kindOf (d .value) ≡ 1) × (c ≡ countsOf (recordHeights sw text (childrenOf t)))
+  unfolding ofRecords ofHeights countsIn element
+  counted-by t c none q e = (
+    (λ i d r. object-kind (d .value) (none-passes isOther 1 (childrenOf t) i d q r)),
+    some-is (sym e ∙ with-counts (countsOf (recordHeights sw text (childrenOf t))) (measuredHeights (recordHeights sw text (childrenOf t)))),
+  )
+  counted-by t c (some d) q e = none-is e
+
+  root-counted : (t : Tree) (c : Counts) → countsIn (ofRoot sw text t) ≡ some c → Records t × (c ≡ countsOf (recordHeights sw text (childrenOf t)))
+  unfolding ofRoot isArray countsIn isOther
+  root-counted t c e =
+      cond-case (λ (a : Summary). countsIn a ≡ some c) (Records t × (c ≡ countsOf (recordHeights sw text (childrenOf t)))) (eqb (kindOf t) 2) e
+      (λ z f.
+      let r = counted-by t c (firstThat isOther 1 (childrenOf t)) refl f in
+      (record { array = eqb-true (kindOf t) 2 z; objects = r .0 }, r .1))
+      (λ _ f. none-is f)
+
+  pub counted-root : (o : Outcome) (c : Counts) → countsIn (summary sw text o) ≡ some c
+      → (t : Tree) × (o ≡ taken t) × Records t × (c ≡ countsOf (recordHeights sw text (childrenOf t)))
+  unfolding summary countsIn
+  counted-root (taken t) c e = let r = root-counted t c e in (t, refl, r .0, r .1)
+  counted-root (refused number place) c e = none-is e
+
+  -- ---- its numbers
+
+  -- a summary of records is no refusal
+  no-refusal : (c : Counts) (l : List ℕ) (number place : ℕ) → summaryOf c l ≡ S.Refused number place → ⊥
+  unfolding summaryOf
+  no-refusal c [] number place e = let v : _≡_ {A = ℕ} 0 1 = cc in omega arith
+  no-refusal c (u ∷ l) number place e = let v : _≡_ {A = ℕ} 0 1 = cc in omega arith
+
+  records-named : (t : Tree) (o : Option Numbered) (number place : ℕ) → firstThat isOther 1 (childrenOf t) ≡ o
+      → ofRecords sw text (childrenOf t) o ≡ S.Refused number place → (number ≡ 21) × (place < size t)
+  unfolding ofRecords ofHeights
+  records-named t none number place q e =
+      absurd (no-refusal (countsOf (recordHeights sw text (childrenOf t))) (measuredHeights (recordHeights sw text (childrenOf t))) number place e)
+  records-named t (some c) number place q e =
+      let n = child-node t 0 t c (node-root t) (first-among isOther 1 (childrenOf t) c q) in
+      let f = node-fits (c .value) t (c .number) n in
+      let p = size-pos (c .value) in
+      let k : c .number ≡ place = cc in
+      let m : 21 ≡ number = cc in
+      (omega arith, omega arith)
+
+  root-named : (t : Tree) (number place : ℕ) → ofRoot sw text t ≡ S.Refused number place → (number ≡ 21) × (place < size t)
+  unfolding ofRoot isOther
+  root-named t number place e =
+      cond-case (λ (a : Summary). a ≡ S.Refused number place) ((number ≡ 21) × (place < size t)) (isArray t) e
+      (λ _ f. records-named t (firstThat isOther 1 (childrenOf t)) number place refl f)
+      (λ _ f.
+      let k : 0 ≡ place = cc in
+      let m : 21 ≡ number = cc in
+      let p = size-pos t in
+      (omega arith, omega arith))
+
+  named-node : (o : Outcome) (place : ℕ) → NumberWithin o → summary sw text o ≡ S.Refused 21 place → place < nodeCount o
+  unfolding summary nodeCount NumberWithin
+  named-node (taken t) place n e = root-named t 21 place e .1
+  named-node (refused r p) place n e =
+      let q : r ≡ 21 = cc in
+      let b = n .1 in
+      absurd (omega arith)
+
+  named-text : (o : Outcome) (number place : ℕ) → NumberWithin o → summary sw text o ≡ S.Refused number place → (number ≡ 21 → ⊥)
+      → (o ≡ refused number place) × (1 ≤ number) × (number ≤ 10)
+  unfolding summary NumberWithin
+  named-text (taken t) number place n e not = absurd (not (root-named t number place e .0))
+  named-text (refused r p) number place n e not =
+      let q : r ≡ number = cc in
+      let a = n .0 in
+      let b = n .1 in
+      (cc, omega arith, omega arith)
+
+  -- every refusal has a number
+  pub some-number : (o : Outcome) (number place : ℕ) → NumberWithin o → summary sw text o ≡ S.Refused number place → 1 ≤ number
+  unfolding summary NumberWithin
+  some-number (taken t) number place n e = let q = root-named t number place e .0 in omega arith
+  some-number (refused r p) number place n e =
+      let q : r ≡ number = cc in
+      let a = n .0 in
+      omega arith
+
+pub summaries-answered : SummariesAnswered
+unfolding SummariesAnswered summary ofHeights
+summaries-answered sw words text =
+    record {
+      refused-text = λ number place e. ap (summary sw text) e;
+      other-root = λ tree e n. ap (summary sw text) e ∙ by-other sw text tree n;
+      other-element = λ tree e k i c F. ap (summary sw text) e ∙ by-array sw text tree k ∙ by-element sw text tree i c F;
+      summarized = λ tree e R. (
+        countsOf (recordHeights sw text (childrenOf tree)),
+        ap (λ (o : Outcome). countsIn (summary sw text o)) e ∙ ap countsIn (by-array sw text tree (R .array) ∙ by-records sw text tree R)
+            ∙ with-counts (countsOf (recordHeights sw text (childrenOf tree))) (measuredHeights (recordHeights sw text (childrenOf tree))),
+      );
+      only = λ counts e. let r = counted-root sw text (reading sw words text) counts e in (r .0, r .1, r .2);
+      of-a-node = λ place e. let r = number-law sw words text in named-node sw text (reading sw words text) place r e;
+      of-the-text = λ number place e not. named-text sw text (reading sw words text) number place (number-law sw words text) e not;
+    }
+
+-- ---- the height of a record
+
+-- whichever number the object is given
+by-number : (sw : Switches) (text : List ℕ) (n : ℕ) (t : Tree) → recordHeight sw text t ≡ memberHeight (member sw text (ascii "height_mm") n t)
+unfolding recordHeight member
+by-number sw text n t = any-number (hasKey sw text (ascii "height_mm")) 1 (suc n) (childrenOf t)
+
+pub records-read : RecordsRead
+unfolding RecordsRead memberHeight member element
+records-read sw words text n t e k =
+    let r = node-taken n (reading sw words text) t e in
+    record {
+      there = λ i c q has. by-number sw text n t ∙ ap memberHeight (only-member sw words text (r .0) (r .1) n t (r .2) k i c (ascii "height_mm") q has);
+      absent = λ h. by-number sw text n t ∙ ap memberHeight (all-fail (hasKey sw text (ascii "height_mm")) (suc n) (childrenOf t) h);
+    }
+
+-- ---- they add up
+
+array-word : (t : Tree) → kindOf t ≡ 2 → ownWord t ≡ count (childrenOf t)
+unfolding kindOf childrenOf ownWord
+array-word (leaf h s) e = let q = scalar-high s in absurd (omega arith)
+array-word (branch h k f) e = refl
+
+pub counts-added : CountsAddUp
+unfolding CountsAddUp
+counts-added sw words text c e =
+    let r = counted-root sw text (reading sw words text) c e in
+    let t = r .0 in
+    let hs = recordHeights sw text (childrenOf t) in
+    ap recordsOf (r .3) ∙ counts-add-up hs ∙ heights-length sw text (childrenOf t)
+    ∙ sym (ap (λ (o : Outcome). wordOf (tableOf words o) 0 9) (r .1) ∙ word-count (tableOf words (taken t)) 0 t (root-node words t) ∙ array-word t (r .2 .array))
