@@ -2,13 +2,11 @@
 //! steps that leads nowhere, on both sides of each clause. Expected numbers are
 //! worked out by hand from the papers.
 
+mod common;
+
+use common::{Numbers, Row, NONE, RUBBISH};
 use second::path::find;
 use second::{read, Refusal, MAX_NODES, MAX_TEXT, ROW};
-
-type Row = [u32; ROW];
-
-const NONE: u32 = u32::MAX;
-const RUBBISH: u32 = 0xDEAD_BEEF;
 
 /// The answer for a text that reads, from tables of several sizes that start
 /// out full of rubbish. Each is the text's reading afterwards, whatever the
@@ -957,22 +955,6 @@ fn all_lists_of_some_steps() {
 
 // Made-up texts.
 
-/// A fixed sequence of numbers that follow no rule (xorshift).
-struct Numbers(u64);
-
-impl Numbers {
-    fn below(&mut self, bound: usize) -> usize {
-        self.0 ^= self.0 << 13;
-        self.0 ^= self.0 >> 7;
-        self.0 ^= self.0 << 17;
-        (self.0 >> 16) as usize % bound
-    }
-
-    fn one_of<'a>(&mut self, list: &[&'a str]) -> &'a str {
-        list[self.below(list.len())]
-    }
-}
-
 /// A value without its text: identifiers, spaces, comments and the spelling of
 /// keys are put in when it is written.
 enum Value {
@@ -1011,8 +993,8 @@ impl Value {
     /// A container with others up to so deep in it.
     fn container(numbers: &mut Numbers, depth: usize) -> Value {
         // Now and then enough for indices of two digits.
-        let length = if numbers.below(16) == 0 { 9 + numbers.below(6) } else { numbers.below(6) };
-        let kind = numbers.below(4);
+        let length = if numbers.index(16) == 0 { 9 + numbers.index(6) } else { numbers.index(6) };
+        let kind = numbers.index(4);
         let items = (0..length).map(|_| Value::any(numbers, depth - 1)).collect::<Vec<_>>();
         match kind {
             0 => Value::Array(items),
@@ -1020,7 +1002,7 @@ impl Value {
             _ => {
                 let mut pairs: Vec<(String, Value)> = Vec::new();
                 for value in items {
-                    let parts = numbers.below(4).min(2);
+                    let parts = numbers.index(4).min(2);
                     let key: String = (0..parts).map(|_| numbers.one_of(&PARTS)).collect();
                     // "Two keys of one object are equal when their contents
                     // are equal bytes."
@@ -1034,8 +1016,8 @@ impl Value {
     }
 
     fn any(numbers: &mut Numbers, depth: usize) -> Value {
-        if depth == 0 || numbers.below(2) == 0 {
-            Value::Scalar(SCALARS[numbers.below(SCALARS.len())])
+        if depth == 0 || numbers.index(2) == 0 {
+            Value::Scalar(SCALARS[numbers.index(SCALARS.len())])
         } else {
             Value::container(numbers, depth)
         }
@@ -1068,7 +1050,7 @@ impl Value {
 
     fn write(&self, numbers: &mut Numbers, text: &mut String) {
         gap(numbers, text);
-        let named = numbers.below(4) == 0;
+        let named = numbers.index(4) == 0;
         if named {
             text.push_str(numbers.one_of(&NAMES));
             gap(numbers, text);
@@ -1126,14 +1108,14 @@ fn gap(numbers: &mut Numbers, text: &mut String) {
 
 /// "commas between, one trailing comma allowed"
 fn comma(numbers: &mut Numbers, text: &mut String, last: bool) {
-    if !last || numbers.below(3) == 0 {
+    if !last || numbers.index(3) == 0 {
         text.push(',');
     }
 }
 
 /// A key of this content, in one of the ways in which it can be spelled.
 fn spelled(numbers: &mut Numbers, content: &str) -> String {
-    match numbers.below(3) {
+    match numbers.index(3) {
         0 if is_plain(content) => content.to_string(),
         1 if !content.chars().any(|c| c != '\n' && c.is_ascii_control()) => {
             // More hashes than it holds, or none if it holds no quote.
@@ -1178,7 +1160,7 @@ fn character(numbers: &mut Numbers, c: char) -> String {
         _ => "",
     };
     let number = c as u32;
-    match numbers.below(8) {
+    match numbers.index(8) {
         0 => c.to_string().bytes().map(|byte| format!("\\x{byte:02X}")).collect(),
         1 if number <= 0xFFFF => format!("\\u{number:04x}"),
         2 => format!("\\U{number:08X}"),
@@ -1250,7 +1232,7 @@ fn every_node_of_made_up_texts_by_its_path() {
 
 /// Steps that are like a good one, or like what is good elsewhere.
 fn wrong_steps(numbers: &mut Numbers, good: &[u8], children: usize) -> Vec<Vec<u8>> {
-    let zeros = vec![b'0'; 1 + numbers.below(30)];
+    let zeros = vec![b'0'; 1 + numbers.index(30)];
     vec![
         Vec::new(),
         [good, b"x"].concat(),
@@ -1291,7 +1273,7 @@ fn every_path_of_made_up_texts_with_a_step_made_wrong() {
                 let children = parent.children();
                 let good = steps.get(at).cloned().unwrap_or(b"0".to_vec());
                 let wrong = wrong_steps(&mut numbers, &good, children.len());
-                let wrong = &wrong[numbers.below(wrong.len())];
+                let wrong = &wrong[numbers.index(wrong.len())];
                 let behind = steps.get(at + 1..).unwrap_or(&[]);
                 let list = [&steps[..at], std::slice::from_ref(wrong), behind].concat();
                 let is_wrong = children.iter().all(|(step, _)| step != wrong);
@@ -1342,15 +1324,15 @@ fn any_paths_in_made_up_texts() {
             // Down the value for a while, mostly, and then by chance.
             let mut value = &made.value;
             let mut path = Vec::new();
-            for number in 0..numbers.below(6) {
+            for number in 0..numbers.index(6) {
                 if number > 0 {
                     path.push(b'.');
                 }
                 let children = value.children();
-                if children.is_empty() || numbers.below(8) == 0 {
+                if children.is_empty() || numbers.index(8) == 0 {
                     path.extend_from_slice(numbers.one_of(&PARTS).as_bytes());
                 } else {
-                    let (step, child) = &children[numbers.below(children.len())];
+                    let (step, child) = &children[numbers.index(children.len())];
                     path.extend_from_slice(step);
                     value = child;
                 }

@@ -2,6 +2,9 @@
 //! it passes over up to there. Expected numbers are worked out by hand from the
 //! request and from RFC 3629's grammar.
 
+mod common;
+
+use common::Numbers;
 use second::utf8::{check, Checked};
 use second::{read, Refusal, MAX_TEXT};
 
@@ -234,18 +237,6 @@ fn fronts_of_all_sequences() {
                 }
             }
         }
-    }
-}
-
-/// A fixed sequence of numbers that follow no rule (xorshift).
-struct Numbers(u64);
-
-impl Numbers {
-    fn below(&mut self, bound: u64) -> u64 {
-        self.0 ^= self.0 << 13;
-        self.0 ^= self.0 >> 7;
-        self.0 ^= self.0 << 17;
-        (self.0 >> 16) % bound
     }
 }
 
