@@ -23,8 +23,8 @@ use Rattle.summary.specs.Summary.{memberHeight, recordHeight, recordHeights, co
 use Rattle.summary.specs.declared.summary.Counts.{Counts}
 use Rattle.summary.specs.declared.summary.Summary.{Summary}
 use Rattle.summary.specs.declared.summary.Summary.the-variants as S
-use Rattle.summary.proofs.RecordLaws.{any-number}
-use Rattle.summary.proofs.SummaryLaws.{counts-add-up}
+use Rattle.summary.proofs.RecordLaws.{isOther, any-number}
+use Rattle.summary.proofs.SummaryLaws.{counts-add-up, elements, other-root, array-root}
 use Rattle.summary.proofs.AnswerLaws.{recordsOf, heights-length}
 use Rattle.theorems.specs.Summary.{countsIn, Records, FirstOther, SummariesAnswered, RecordsRead, CountsAddUp}
 
@@ -59,19 +59,16 @@ module _ (p : Tree → Bool) where
 
 -- ---- by kind
 
-isOther : Tree → Bool
-isOther t = not (isObject t)
-
 object-kind : (t : Tree) → isOther t ≡ false → kindOf t ≡ 1
-unfolding isOther isObject
+unfolding isObject
 object-kind t e = eqb-true (kindOf t) 1 (not-false (eqb (kindOf t) 1) e)
 
 kind-object : (t : Tree) → kindOf t ≡ 1 → isOther t ≡ false
-unfolding isOther isObject
+unfolding isObject
 kind-object t e = ap not (eq-eqb (kindOf t) 1 e)
 
 kind-other : (t : Tree) → (kindOf t ≡ 1 → ⊥) → isOther t ≡ true
-unfolding isOther isObject
+unfolding isObject
 kind-other t n = ap not (ne-eqb (kindOf t) 1 n)
 
 -- ---- the counts in an answer
@@ -84,26 +81,14 @@ with-counts c (u ∷ l) = refl
 -- ---- the answer
 
 module _ (sw : Switches) (text : List ℕ) where
-  -- of a tree whose root is an array
-  of-elements : Tree → Summary
-  of-elements t = ofRecords sw text (childrenOf t) (firstThat isOther 1 (childrenOf t))
-
-  by-array : (t : Tree) → kindOf t ≡ 2 → ofRoot sw text t ≡ of-elements t
-  unfolding ofRoot isArray of-elements isOther
-  by-array t e = cond-true (eqb (kindOf t) 2) (of-elements t) (S.Refused 21 0) (eq-eqb (kindOf t) 2 e)
-
-  by-other : (t : Tree) → (kindOf t ≡ 2 → ⊥) → ofRoot sw text t ≡ S.Refused 21 0
-  unfolding ofRoot isArray of-elements isOther
-  by-other t n = cond-false (eqb (kindOf t) 2) (of-elements t) (S.Refused 21 0) (ne-eqb (kindOf t) 2 n)
-
-  by-element : (t : Tree) (i : ℕ) (c : Numbered) → FirstOther t i c → of-elements t ≡ S.Refused 21 (c .number)
-  unfolding of-elements ofRecords element
+  by-element : (t : Tree) (i : ℕ) (c : Numbered) → FirstOther t i c → elements sw text t ≡ S.Refused 21 (c .number)
+  unfolding ofRecords element
   by-element t i c F =
       ap (ofRecords sw text (childrenOf t))
       (first-passes isOther 1 (childrenOf t) i c (F .there) (kind-other (c .value) (F .other)) (λ j d l q. kind-object (d .value) (F .before j d l q)))
 
-  by-records : (t : Tree) → Records t → of-elements t ≡ ofHeights (recordHeights sw text (childrenOf t))
-  unfolding of-elements ofRecords element
+  by-records : (t : Tree) → Records t → elements sw text t ≡ ofHeights (recordHeights sw text (childrenOf t))
+  unfolding ofRecords element
   by-records t R = ap (ofRecords sw text (childrenOf t)) (all-fail isOther 1 (childrenOf t) (λ i c q. kind-object (c .value) (R .objects i c q)))
 
   -- the counts of a root
@@ -117,7 +102,7 @@ module _ (sw : Switches) (text : List ℕ) where
   counted-by t c (some d) q e = none-is e
 
   root-counted : (t : Tree) (c : Counts) → countsIn (ofRoot sw text t) ≡ some c → Records t × (c ≡ countsOf (recordHeights sw text (childrenOf t)))
-  unfolding ofRoot isArray countsIn isOther
+  unfolding ofRoot isArray countsIn
   root-counted t c e =
       cond-case (λ (a : Summary). countsIn a ≡ some c) (Records t × (c ≡ countsOf (recordHeights sw text (childrenOf t)))) (eqb (kindOf t) 2) e
       (λ z f.
@@ -153,7 +138,7 @@ module _ (sw : Switches) (text : List ℕ) where
       (omega arith, omega arith)
 
   root-named : (t : Tree) (number place : ℕ) → ofRoot sw text t ≡ S.Refused number place → (number ≡ 21) × (place < size t)
-  unfolding ofRoot isOther
+  unfolding ofRoot
   root-named t number place e =
       cond-case (λ (a : Summary). a ≡ S.Refused number place) ((number ≡ 21) × (place < size t)) (isArray t) e
       (λ _ f. records-named t (firstThat isOther 1 (childrenOf t)) number place refl f)
@@ -195,11 +180,11 @@ unfolding SummariesAnswered summary ofHeights
 summaries-answered sw words text =
     record {
       refused-text = λ number place e. ap (summary sw text) e;
-      other-root = λ tree e n. ap (summary sw text) e ∙ by-other sw text tree n;
-      other-element = λ tree e k i c F. ap (summary sw text) e ∙ by-array sw text tree k ∙ by-element sw text tree i c F;
+      other-root = λ tree e n. ap (summary sw text) e ∙ sym (other-root sw text tree n);
+      other-element = λ tree e k i c F. ap (summary sw text) e ∙ sym (array-root sw text tree k) ∙ by-element sw text tree i c F;
       summarized = λ tree e R. (
         countsOf (recordHeights sw text (childrenOf tree)),
-        ap (λ (o : Outcome). countsIn (summary sw text o)) e ∙ ap countsIn (by-array sw text tree (R .array) ∙ by-records sw text tree R)
+        ap (λ (o : Outcome). countsIn (summary sw text o)) e ∙ ap countsIn (sym (array-root sw text tree (R .array)) ∙ by-records sw text tree R)
             ∙ with-counts (countsOf (recordHeights sw text (childrenOf tree))) (measuredHeights (recordHeights sw text (childrenOf tree))),
       );
       only = λ counts e. let r = counted-root sw text (reading sw words text) counts e in (r .0, r .1, r .2);
