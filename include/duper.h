@@ -1,18 +1,20 @@
 /*
- * The Duper reader, the content call, asking by path, corrections and undo, and
- * the reader's UTF-8 check, from the archive libduper.a.
+ * The Duper reader, the content call, asking by path, the season's summary,
+ * corrections and undo, and the reader's UTF-8 check, from the archive
+ * libduper.a.
  *
  * Every call may be given any bytes, any lengths and any numbers: none of
  * them needs to be checked before. What the caller must see to:
  *   - each pointer points to as many elements as the length after it says,
- *     answer to three, and eights to one;
- *   - the pointer of an empty slice may be any pointer that is not null and is
- *     aligned for its element (to 4 bytes for the table);
+ *     answer and heights to three, counts to four, and eights to one;
+ *   - no pointer is null, and each is aligned for its element: the table to 4
+ *     bytes; answer, counts, heights and eights to 8. The pointer of an empty
+ *     slice may be any such pointer;
  *   - a buffer that a call writes to must not overlap any other that the same
  *     call is given.
- *   - the thread has stack enough: 64 KiB for a reading, a content, a path or a
- *     UTF-8 check, 128 KiB for an undo, 256 KiB for a correction, beside the
- *     caller's own.
+ *   - the thread has stack enough: 64 KiB for a reading, a content, a path, a
+ *     summary or a UTF-8 check, 128 KiB for an undo, 256 KiB for a correction,
+ *     beside the caller's own.
  * Nothing is kept between calls, and no memory is taken from the heap. The
  * archive is for x86-64 Linux.
  *
@@ -37,8 +39,10 @@
  *   18  the journal's last entry is bad (undo)
  *   19  the span isn't one string or key (content call only)
  *   20  the content is longer than the output (content call only)
+ *   21  the root is no array, or an element of it no object; the node's number
+ *       (summary only)
  *   23  no child for a step of the path; the step's number, from 0 (path only)
- * From 11 on the place is 0, but for 23. 21 and 22 are given by no call here.
+ * From 11 on the place is 0, but for 21 and 23. 22 is given by no call here.
  *
  * The table has twelve words for each node, nodes in order of their first
  * byte, the root being node 0; ends are one past the last byte:
@@ -118,6 +122,41 @@ uint64_t duper_content(const uint8_t *text, size_t text_len,
 uint64_t duper_find(const uint8_t *text, size_t text_len,
                     uint32_t *table, size_t table_len,
                     const uint8_t *path, size_t path_len);
+
+/*
+ * Reads the text into the table, as duper_read does, and summarizes the heights
+ * of its records. The root must be an array, and each of its elements, a record,
+ * an object. Identifiers are ignored, around these and around a height.
+ *
+ * The height of a record is the value of its key height_mm, a number of
+ * millimetres. The key is known by its content, however it is written; a key
+ * further in, in one of the record's values, is none of its own. The height is
+ *   measured  if it is an integer or decimal, and an exact whole number of
+ *             micrometres from 0 to 10,000,000: 412.5 is 412500, 0.250e1 is
+ *             2500, and -0.0 is 0;
+ *   null      if it is null, which is not 0;
+ *   absent    if the record has no such key;
+ *   unfit     if it is anything else: 0.0001, -1, 10000.001, true, "412.5".
+ *
+ * Answers 0 if the records were summarized; else the refusal times 4294967296
+ * plus its place: 1 to 10, the text isn't taken, and then every word of the
+ * table is 0; or 21 and the number of a node: 0, the root, if it is no array,
+ * else that of the first element of the root that is no object. After 21, as
+ * after a success, the table is the reading.
+ *
+ * counts[0] to counts[3] are how many heights are measured, null, absent and
+ * unfit, in this order. They add up to the number of records, word 9 of the
+ * root. heights[0] to heights[2] are the least, the greatest and the mean of
+ * the measured heights, in micrometres. The mean is their exact sum as a double
+ * divided once by their count as a double.
+ *
+ * A refusal leaves counts and heights as they were. If no height is measured,
+ * so that counts[0] is 0, heights are left as they were: look at counts[0]
+ * before them.
+ */
+uint64_t duper_summary(const uint8_t *text, size_t text_len,
+                       uint32_t *table, size_t table_len,
+                       uint64_t counts[4], double heights[3]);
 
 /*
  * Replaces one value of a text. The text is the first used bytes of its

@@ -3,7 +3,8 @@
 use std::ops::Range;
 
 use crate::node::{nodes, Kind, Node, Nodes};
-use crate::{change, content, path, read, Answer, Reason, Refusal, MAX_NODES, MAX_TEXT, ROW};
+use crate::{change, content, path, read, summary};
+use crate::{Answer, Reason, Refusal, Summary, MAX_NODES, MAX_TEXT, ROW};
 
 /// How far a [`Document`] may grow by corrections.
 ///
@@ -335,6 +336,51 @@ impl Document {
         // It is a node of the text's reading, which the document's table is.
         let none = Refusal { number: Reason::NoSuchNode.number(), place: 0 };
         self.node(number).ok_or(none)
+    }
+
+    /// The season's summary of a text whose root is an array of objects, its
+    /// records; see [`summary`](crate::summary()) for what is counted.
+    ///
+    /// ```
+    /// let mut document = duper::Document::read(
+    ///     "Season([
+    ///         {ball: 1, height_mm: 412.5},
+    ///         {ball: 2, height_mm: null}, // lost sight of it
+    ///         {ball: 3, height_mm: 0},    // measured: it did not rise
+    ///         {ball: 4},
+    ///     ])",
+    /// )?;
+    /// let season = document.summary()?;
+    /// assert_eq!((season.counts.measured, season.counts.null), (2, 1));
+    /// assert_eq!((season.counts.absent, season.counts.unfit), (1, 0));
+    /// let heights = season.heights.expect("two are measured");
+    /// assert_eq!((heights.least, heights.greatest), (0.0, 412_500.0));
+    /// assert_eq!(heights.mean, 206_250.0);
+    ///
+    /// // It is that of the text as it stands.
+    /// let lost = document.find("1.height_mm")?.number();
+    /// document.correct(lost, "398")?;
+    /// assert_eq!(document.summary()?.counts.measured, 3);
+    /// document.undo()?;
+    /// assert_eq!(document.summary()?, season);
+    /// # Ok::<(), duper::Refusal>(())
+    /// ```
+    ///
+    /// The refusal is 21 if the root is no array, or an element of it no object;
+    /// [`Refusal::node`] is the number of that node. No other comes up, as the
+    /// text of a document was taken.
+    ///
+    /// ```
+    /// let document = duper::Document::read("{balls: [{height_mm: 398}]}")?;
+    /// let refusal = document.summary().unwrap_err();
+    /// assert_eq!((refusal.number, refusal.node()), (21, Some(0)));
+    /// # Ok::<(), duper::Refusal>(())
+    /// ```
+    ///
+    /// The text is read for each call anew, into a table lent for it.
+    pub fn summary(&self) -> Result<Summary, Refusal> {
+        let mut table = vec![0; self.table.len()];
+        summary(&self.text, &mut table)
     }
 
     /// The content of a node's key; `None` if it has none.

@@ -3,8 +3,8 @@
 use std::error::Error;
 use std::fmt;
 
-/// Why a call was refused: one of document 01's numbers, or 23 of document 02,
-/// and its place.
+/// Why a call was refused: one of document 01's numbers, or 21 or 23 of document
+/// 02, and its place.
 ///
 /// As an error it says both in words:
 ///
@@ -18,8 +18,9 @@ use std::fmt;
 pub struct Refusal {
     /// The number, from 1 on.
     pub number: u32,
-    /// The place in the text, in bytes; 0 from number 11 on, but for 23, where
-    /// it is the number of a step of the path: see [`step`](Refusal::step).
+    /// The place in the text, in bytes; 0 from number 11 on, but for 21, where
+    /// it is a node's number, and 23, where it is that of a step of the path: see
+    /// [`node`](Refusal::node) and [`step`](Refusal::step).
     pub place: u32,
 }
 
@@ -73,6 +74,9 @@ pub enum Reason {
     NotAString = 19,
     /// The content is longer than the output.
     ContentTooLong = 20,
+    /// The root is not an array, or an element of it is not an object; the place
+    /// is the number of that node.
+    NotRecords = 21,
     /// A step of the path has no child to go to; the place is the step's
     /// number, from 0.
     NoChild = 23,
@@ -80,7 +84,7 @@ pub enum Reason {
 
 impl Reason {
     /// All reasons, by number.
-    const ALL: [Reason; 21] = [
+    const ALL: [Reason; 22] = [
         Reason::TextTooLong,
         Reason::NotUtf8,
         Reason::Malformed,
@@ -101,6 +105,7 @@ impl Reason {
         Reason::BadEntry,
         Reason::NotAString,
         Reason::ContentTooLong,
+        Reason::NotRecords,
         Reason::NoChild,
     ];
 
@@ -109,7 +114,7 @@ impl Reason {
         Reason::ALL.into_iter().find(|reason| reason.number() == number)
     }
 
-    /// Its number, from 1 to 20, or 23.
+    /// Its number, from 1 to 21, or 23.
     pub fn number(self) -> u32 {
         self as u32
     }
@@ -137,6 +142,7 @@ impl Reason {
             Reason::BadEntry => "the journal's last entry is bad",
             Reason::NotAString => "the span is not one string or key",
             Reason::ContentTooLong => "the content is longer than the output",
+            Reason::NotRecords => "the root is not an array of objects",
             Reason::NoChild => "a step of the path has no child to go to",
         }
     }
@@ -167,6 +173,24 @@ impl Refusal {
         Reason::from_number(self.number)
     }
 
+    /// The number of the node that has another shape than a summary asks for: 0,
+    /// the root, if it is no array, else the first element of it that is no
+    /// object. `None` for a refusal other than 21.
+    ///
+    /// ```
+    /// let document = duper::Document::read("[{height_mm: 398}, null]")?;
+    /// let refusal = document.summary().unwrap_err();
+    /// assert_eq!(refusal.node(), Some(3));
+    /// assert_eq!(
+    ///     refusal.to_string(),
+    ///     "the root is not an array of objects (refusal 21 at node 3)"
+    /// );
+    /// # Ok::<(), duper::Refusal>(())
+    /// ```
+    pub fn node(&self) -> Option<usize> {
+        (self.reason() == Some(Reason::NotRecords)).then_some(self.place as usize)
+    }
+
     /// The number of the first step of the path, counted from 0, that has no
     /// child to go to; `None` for a refusal other than 23.
     ///
@@ -194,6 +218,8 @@ impl fmt::Display for Refusal {
         write!(f, " (refusal {}", self.number)?;
         if (1..=10).contains(&self.number) {
             write!(f, " at byte {}", self.place)?;
+        } else if let Some(node) = self.node() {
+            write!(f, " at node {node}")?;
         } else if let Some(step) = self.step() {
             write!(f, " at step {step}, counted from 0")?;
         }
@@ -216,12 +242,16 @@ mod tests {
         assert_eq!(refusal.to_string(), "the text is over 65,536 bytes (refusal 1 at byte 65536)");
         let refusal = Refusal { number: 20, place: 0 };
         assert_eq!(refusal.to_string(), "the content is longer than the output (refusal 20)");
+        let refusal = Refusal { number: 21, place: 3 };
+        assert_eq!(Refusal::from_answer((21 << 32) + 3), Err(refusal));
+        let said = "the root is not an array of objects (refusal 21 at node 3)";
+        assert_eq!(refusal.to_string(), said);
     }
 
     #[test]
     fn every_number_has_a_reason_of_its_own() {
         let mut words = std::collections::HashSet::new();
-        for number in (1..=20).chain([23]) {
+        for number in (1..=21).chain([23]) {
             let refusal = Refusal { number, place: 3 };
             let reason = refusal.reason().expect("it is one of the documents'");
             assert_eq!(reason.number(), number);
@@ -230,12 +260,15 @@ mod tests {
             assert!(said.starts_with(&reason.to_string()), "{said}");
             assert!(said.contains(&format!("(refusal {number}")), "{said}");
             assert_eq!(said.contains(" at byte 3"), number <= 10, "{said}");
+            assert_eq!(said.contains(" at node 3"), number == 21, "{said}");
             assert_eq!(said.contains(" at step 3"), number == 23, "{said}");
+            assert_eq!(refusal.node(), (number == 21).then_some(3));
             assert_eq!(refusal.step(), (number == 23).then_some(3));
         }
-        for number in [0, 21, 22, 24, u32::MAX] {
+        for number in [0, 22, 24, u32::MAX] {
             let refusal = Refusal { number, place: 0 };
-            assert_eq!((refusal.reason(), refusal.step()), (None, None));
+            assert_eq!(refusal.reason(), None);
+            assert_eq!((refusal.node(), refusal.step()), (None, None));
             assert!(refusal.to_string().contains(&number.to_string()));
         }
     }

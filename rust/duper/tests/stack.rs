@@ -91,6 +91,55 @@ fn a_path_of_any_length_needs_no_more() {
     });
 }
 
+/// 30 objects inside a record, so that with the record and the root's array as
+/// many containers are open as can be; 64 nodes, the record's own height last.
+fn deepest_record() -> Vec<u8> {
+    let open = r#"A({"\x61":0,"\u0061b":"#;
+    let inside = format!("{}{}{}", open.repeat(30), 1, "})".repeat(30));
+    format!(r#"A([A({{"\x61":{inside},"h\u0065ight_mm":A(0.250e1)}})])"#).into_bytes()
+}
+
+#[test]
+fn a_summary_needs_64_kib() {
+    with_stack(64, || {
+        let mut table = table();
+        let season = duper::summary(&deepest_record(), &mut table).expect("one record");
+        assert_eq!(season.counts.records(), 1);
+        assert_eq!(season.heights.map(|heights| heights.mean), Some(2500.0));
+        assert_eq!(duper::nodes(&table).count(), 64);
+        // The root is no array.
+        let refusal = duper::summary(&deepest(), &mut table).expect_err("an object");
+        assert_eq!((refusal.number, refusal.node()), (21, Some(0)));
+        let deeper = [b"[".as_slice(), &deepest(), b"]"].concat();
+        let refusal = duper::summary(&deeper, &mut table).expect_err("depth 33");
+        assert_eq!(refusal.number, 9);
+    });
+}
+
+/// However many records there are, and however long the text, the stack must
+/// not grow with them.
+#[test]
+fn a_summary_of_any_length_needs_no_more() {
+    // A node for the root and two for each record: one less than there can be.
+    let records = [r#"{"h\u0065ight_mm":2.5}"#; 2_047].join(",");
+    let mut measured = format!("[{records}]").into_bytes();
+    measured.resize(duper::MAX_TEXT, b' ');
+    let absent = format!("[{}]", ["{}"; 4_095].join(","));
+    let open = r#"[{""#;
+    let close = r#"":0,height_mm:1}]"#;
+    let key = "k".repeat(duper::MAX_TEXT - open.len() - close.len());
+    let long_key = [open, &key, close].concat();
+    with_stack(64, move || {
+        let mut table = vec![0; duper::MAX_NODES * duper::ROW];
+        let season = duper::summary(&measured, &mut table).expect("2,047 records");
+        assert_eq!((season.counts.measured, season.counts.records()), (2_047, 2_047));
+        let season = duper::summary(absent.as_bytes(), &mut table).expect("4,095 records");
+        assert_eq!((season.counts.absent, season.counts.records()), (4_095, 4_095));
+        let season = duper::summary(long_key.as_bytes(), &mut table).expect("one record");
+        assert_eq!((season.counts.measured, season.counts.records()), (1, 1));
+    });
+}
+
 #[test]
 fn a_correction_needs_256_kib_and_an_undo_128() {
     let text = deepest();

@@ -1,7 +1,7 @@
 //! The comparison: whole tables, numbers and places, and contents with the
 //! output buffers compared whole; corrections and undos with all buffers
 //! compared whole; tables before and after insertions; both numbers of the UTF-8
-//! check; and the answers to paths, with the tables.
+//! check; the answers to paths, with the tables; and summaries, with the tables.
 
 use second::book::Call;
 use second::utf8::Checked;
@@ -10,9 +10,11 @@ use crate::check::{self, Answer, ContentCall};
 use crate::editing::{self, OnTrial, Seen};
 use crate::eights;
 use crate::finding;
+use crate::heights::Summary;
 use crate::histories::{History, Lent};
 use crate::insertions;
 use crate::random::Random;
+use crate::summarizing;
 use crate::texts::Case;
 use crate::zeros;
 
@@ -117,6 +119,41 @@ fn asked_document(text: &[u8], words: usize, path: &[u8], answer: Answer) -> Res
 pub fn found(random: &mut Random, seen: &mut finding::Seen) -> Result<(), String> {
     let on_trial = finding::OnTrial { finder: duper_find, further: asked_document };
     finding::trial(random, on_trial, seen)
+}
+
+/// `duper`'s summary in the trial's terms.
+fn in_trial(answer: Result<duper::Summary, duper::Refusal>) -> summarizing::Answer {
+    let refused = |refusal: duper::Refusal| (refusal.number, u64::from(refusal.place));
+    let duper::Summary { counts, heights } = answer.map_err(refused)?;
+    let duper::Counts { measured, null, absent, unfit } = counts;
+    let bits = |duper::Heights { least, greatest, mean }| [least, greatest, mean].map(f64::to_bits);
+    Ok(Summary { counts: [measured, null, absent, unfit], heights: heights.map(bits) })
+}
+
+fn duper_summary(text: &[u8], table: &mut [u32]) -> summarizing::Answer {
+    in_trial(duper::summary(text, table))
+}
+
+/// Holds a document, which lends a table of its own, against the summary with a
+/// table of so many words.
+fn summarized_document(
+    text: &[u8],
+    words: usize,
+    answer: summarizing::Answer,
+) -> Result<(), String> {
+    let document = duper::Document::read_within(text, words / 12);
+    let found = in_trial(document.and_then(|document| document.summary()));
+    if found != answer {
+        return Err(format!("a document answers {found:?}, expected {answer:?}"));
+    }
+    Ok(())
+}
+
+/// Holds `duper`'s summaries against `second`'s and what is known; the error
+/// tells the difference.
+pub fn summarized(random: &mut Random, seen: &mut summarizing::Seen) -> Result<(), String> {
+    let on_trial = summarizing::OnTrial { summarizer: duper_summary, further: summarized_document };
+    summarizing::trial(random, on_trial, seen)
 }
 
 /// A document that may grow as far as buffers of these lengths let it.

@@ -10,27 +10,27 @@ use crate::paths;
 use crate::random::Random;
 
 /// A reading, as a finder sees it.
-struct View<'t> {
-    text: &'t [u8],
-    rows: Vec<&'t [u32]>,
+pub(crate) struct View<'t> {
+    pub(crate) text: &'t [u8],
+    pub(crate) rows: Vec<&'t [u32]>,
 }
 
 impl View<'_> {
-    fn children(&self, node: usize) -> Vec<usize> {
+    pub(crate) fn children(&self, node: usize) -> Vec<usize> {
         let is_child = |&other: &usize| self.rows[other][1] as usize == node;
         (node + 1..self.rows[node][8] as usize).filter(is_child).collect()
     }
 
-    fn key_as_written(&self, node: usize) -> &[u8] {
+    pub(crate) fn key_as_written(&self, node: usize) -> &[u8] {
         &self.text[self.rows[node][4] as usize..self.rows[node][5] as usize]
     }
 
-    fn key(&self, node: usize) -> Vec<u8> {
+    pub(crate) fn key(&self, node: usize) -> Vec<u8> {
         let [start, end] = [self.rows[node][4], self.rows[node][5]];
         content(self.text, start.into(), end.into())
     }
 
-    fn name(&self, node: usize) -> &[u8] {
+    pub(crate) fn name(&self, node: usize) -> &[u8] {
         &self.text[self.rows[node][6] as usize..self.rows[node][7] as usize]
     }
 
@@ -44,12 +44,12 @@ impl View<'_> {
     }
 
     /// The first child of which this holds.
-    fn first(&self, node: usize, is_it: impl Fn(usize) -> bool) -> Option<usize> {
+    pub(crate) fn first(&self, node: usize, is_it: impl Fn(usize) -> bool) -> Option<usize> {
         self.children(node).into_iter().find(|&child| is_it(child))
     }
 }
 
-fn content(text: &[u8], start: u64, end: u64) -> Vec<u8> {
+pub(crate) fn content(text: &[u8], start: u64, end: u64) -> Vec<u8> {
     let mut out = vec![0; text.len()];
     let length = second::content(text, start, end, &mut out).unwrap_or(0);
     out.truncate(length);

@@ -224,7 +224,7 @@ pub(crate) fn by_second(
 }
 
 /// Compares two tables whole.
-fn alike(expected: &[u32], left: &[u32]) -> Result<(), String> {
+pub(crate) fn alike(expected: &[u32], left: &[u32]) -> Result<(), String> {
     if expected == left {
         return Ok(());
     }

@@ -12,6 +12,9 @@
 //! [`eights`] holds the UTF-8 check against `second`'s on them. [`trees`] makes
 //! documents of which every node is known, [`paths`] makes paths for them, and
 //! [`finding`] holds asking by path against what is known and `second`'s.
+//! [`heights`] makes heights, [`records`] makes texts of records with them, and
+//! [`summarizing`] holds the season's summary against what is known and
+//! `second`'s.
 //! `against` compares both readers and their calls; it needs the feature of that
 //! name, on unless turned off, since it links the archive.
 
@@ -28,11 +31,16 @@ pub mod exponents;
 #[cfg(test)]
 mod finders;
 pub mod finding;
+pub mod heights;
 pub mod histories;
 pub mod insertions;
 pub mod paths;
 pub mod random;
+pub mod records;
 pub mod single;
+#[cfg(test)]
+mod summarizers;
+pub mod summarizing;
 pub mod texts;
 pub mod trees;
 pub mod writer;

@@ -3,11 +3,11 @@
 //! a path with one step made wrong must end at that step. Nothing here depends
 //! on the reader under trial.
 
-use second::{MAX_NODES, MAX_TEXT, ROW};
+use second::{MAX_NODES, ROW};
 
 use crate::random::Random;
 use crate::texts;
-use crate::trees::{document, Document};
+use crate::trees::{self, document, Document};
 use crate::writer::Row;
 
 /// A text and some paths.
@@ -67,8 +67,8 @@ pub fn case(random: &mut Random) -> Result<Case, String> {
     }
 }
 
-/// Any of the texts that the readers are tried on, with paths by chance.
-fn elsewhere(random: &mut Random) -> Case {
+/// Any of the texts that the readers are tried on.
+pub(crate) fn other_text(random: &mut Random) -> texts::Case {
     // A reading compares each key with all others of its object, so thousands of
     // them take long.
     let takes_long = |case: &texts::Case| case.sort == "node limit" && case.text[0] == b'{';
@@ -76,7 +76,12 @@ fn elsewhere(random: &mut Random) -> Case {
     if takes_long(&case) && !random.one_in(8) {
         case = texts::case(random.next(), 0);
     }
-    let texts::Case { text, words, .. } = case;
+    case
+}
+
+/// One of these texts, with paths by chance.
+fn elsewhere(random: &mut Random) -> Case {
+    let texts::Case { text, words, .. } = other_text(random);
     let paths = if text.len() > 10_000 { 1 } else { random.between(2, 5) };
     let mut asked = Vec::new();
     for _ in 0..paths {
@@ -106,7 +111,7 @@ fn of_document(random: &mut Random) -> Result<Case, String> {
 
 /// The length of a table for so many nodes: just enough, with room to spare, or
 /// too short.
-fn words(random: &mut Random, nodes: usize) -> usize {
+pub(crate) fn words(random: &mut Random, nodes: usize) -> usize {
     match random.below(200) {
         0 => ROW * MAX_NODES + random.below(30),
         1..=40 => ROW * nodes,
@@ -475,19 +480,7 @@ impl Case {
     /// What reading the text into a table of so many words must come to, if that
     /// is known: the answer and the whole table.
     pub fn reading(&self, words: usize) -> Option<(crate::check::Answer, Vec<u32>)> {
-        let rows = self.rows.as_ref()?;
-        let mut table = vec![0; words];
-        if self.text.len() > MAX_TEXT {
-            return Some((Err((1, 65_536)), table));
-        }
-        // 10 stands at the first value for which there is no node.
-        if let Some(row) = rows.get(second::node_limit(words)) {
-            return Some((Err((10, row[2].into())), table));
-        }
-        for (into, row) in table.chunks_exact_mut(ROW).zip(rows) {
-            into.copy_from_slice(row);
-        }
-        Some((Ok(rows.len()), table))
+        Some(trees::reading(&self.text, self.rows.as_ref()?, words))
     }
 }
 

@@ -4,12 +4,13 @@
 
 use std::collections::HashSet;
 
-use second::{MAX_DEPTH, MAX_NODES};
+use second::{MAX_DEPTH, MAX_NODES, MAX_TEXT, ROW};
 
+use crate::check::Answer;
 use crate::random::Random;
 use crate::writer::{self, Row};
 
-/// A value, as far as paths go.
+/// A value, as far as paths and summaries go.
 #[derive(Debug, Clone, PartialEq, Eq)]
 pub enum Tree {
     /// Members, no two with one key.
@@ -20,6 +21,19 @@ pub enum Tree {
     Tuple(Vec<Tree>),
     /// Any other value.
     Scalar,
+    /// `null`.
+    Null,
+    /// This integer, in any spelling.
+    Integer(i64),
+    /// This decimal, in any spelling.
+    Decimal {
+        /// Whether it has a minus.
+        minus: bool,
+        /// All its digits as one whole number.
+        digits: u64,
+        /// The power of ten.
+        power: i64,
+    },
 }
 
 /// Where a node stands.
@@ -117,8 +131,31 @@ fn put(places: &mut Vec<Place>, parent: Option<usize>, step: Vec<u8>, tree: &Tre
                 put(places, Some(number), index.to_string().into_bytes(), value);
             }
         }
-        Tree::Scalar => {}
+        Tree::Scalar | Tree::Null | Tree::Integer(_) | Tree::Decimal { .. } => {}
     }
+}
+
+/// What reading a text of these rows into a table of so many words must come to:
+/// the answer and the whole table.
+pub fn reading(text: &[u8], rows: &[Row], words: usize) -> (Answer, Vec<u32>) {
+    let mut table = vec![0; words];
+    if text.len() > MAX_TEXT {
+        return (Err((1, 65_536)), table);
+    }
+    // 10 stands at the first value for which there is no node.
+    if let Some(row) = rows.get(second::node_limit(words)) {
+        return (Err((10, row[2].into())), table);
+    }
+    for (into, row) in table.chunks_exact_mut(ROW).zip(rows) {
+        into.copy_from_slice(row);
+    }
+    (Ok(rows.len()), table)
+}
+
+/// Any value of up to so many nodes, with room for so many containers inside
+/// each other.
+pub fn any(random: &mut Random, mut nodes: usize, room: usize) -> Tree {
+    Maker { random, dots: true }.any(&mut nodes, room)
 }
 
 /// Makes a document: mostly of some nodes, now and then as deep as can be, with

@@ -126,6 +126,18 @@ impl Writer<'_> {
         self.node(parent, key, |writer, node| {
             let (kind, children) = match tree {
                 Tree::Scalar => return writer.scalar(node),
+                Tree::Null => {
+                    writer.put(b"null");
+                    return writer.note(node, 10, [0; 3]);
+                }
+                Tree::Integer(value) => {
+                    let last = writer.spell_integer(*value);
+                    return writer.note(node, 6, last);
+                }
+                Tree::Decimal { minus, digits, power } => {
+                    let last = writer.spell_decimal(Some(*minus), *digits, *power);
+                    return writer.note(node, 7, last);
+                }
                 Tree::Object(members) => {
                     (1, members.iter().map(|(key, value)| (Some(key), value)).collect())
                 }
@@ -272,6 +284,11 @@ impl Writer<'_> {
                 (if choice == 9 { 5 } else { 4 }, last)
             }
         };
+        self.note(node, kind, last);
+    }
+
+    /// Notes the kind of a value and its last three words.
+    fn note(&mut self, node: usize, kind: u32, last: [u32; 3]) {
         self.done.rows[node][0] = kind;
         self.done.rows[node][9..].copy_from_slice(&last);
     }
@@ -571,6 +588,11 @@ impl Writer<'_> {
             4 => -(self.random.below(100_000) as i64),
             _ => self.random.next() as i64 >> self.random.below(64),
         };
+        self.spell_integer(value)
+    }
+
+    /// Writes an integer in one of its spellings, and gives its last words.
+    fn spell_integer(&mut self, value: i64) -> [u32; 3] {
         let form = if value >= 0 { self.random.below(6) } else { 5 };
         let (prefix, digits) = match form {
             0 => ("0x", format!("{value:x}")),
@@ -622,6 +644,13 @@ impl Writer<'_> {
             2 => self.random.between(0, 800) as i64 - 400,
             _ => self.random.between(0, 12) as i64 - 9,
         };
+        self.spell_decimal(None, m, p)
+    }
+
+    /// Writes the decimal of these digits and this power of ten in one of its
+    /// spellings, with or without a minus, or by chance, and gives its last
+    /// words.
+    fn spell_decimal(&mut self, minus: Option<bool>, m: u64, p: i64) -> [u32; 3] {
         let fraction = match self.random.below(5) {
             0 => 0,
             1 if self.random.one_in(10) => self.random.below(700),
@@ -629,7 +658,7 @@ impl Writer<'_> {
         };
         let digits = format!("{m:0width$}", width = fraction + 1);
         let (whole, fraction_digits) = digits.split_at(digits.len() - fraction);
-        let minus = self.random.one_in(3);
+        let minus = minus.unwrap_or_else(|| self.random.one_in(3));
         let mut written = if minus { "-" } else { self.random.pick(&["", "", "+"]) }.to_string();
         written.push_str(&self.grouped(whole));
         if fraction > 0 {

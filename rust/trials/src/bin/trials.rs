@@ -1,14 +1,15 @@
-//! `trials --texts N --histories N --insertions N --checks N --paths N --seed S`:
-//! holds `duper` against `second` on N texts, on N histories of corrections and
-//! undos, on N texts with spaces and comments inserted, in N UTF-8 checks, and on
-//! N texts with some paths to ask for each.
+//! `trials --texts N --histories N --insertions N --checks N --paths N
+//! --summaries N --seed S`: holds `duper` against `second` on N texts, on N
+//! histories of corrections and undos, on N texts with spaces and comments
+//! inserted, in N UTF-8 checks, on N texts with some paths to ask for each, and on
+//! N texts to be summarized.
 //!
 //! `--self` looks at `second` alone; `--case K`, `--history K`, `--insertion K`,
-//! `--check K` or `--path K` runs that text, history, text with insertions, UTF-8
-//! check or text with paths only. `--short` runs every text of up to two bytes,
-//! bare and in a few surroundings, every exponent of up to six bytes over a small
-//! alphabet, and the numbers of document 02's request 02, in place of random
-//! texts.
+//! `--check K`, `--path K` or `--summary K` runs that text, history, text with
+//! insertions, UTF-8 check, text with paths or text to be summarized only.
+//! `--short` runs every text of up to two bytes, bare and in a few surroundings,
+//! every exponent of up to six bytes over a small alphabet, and the numbers of
+//! document 02's request 02, in place of random texts.
 
 use std::collections::BTreeMap;
 use std::fmt::Display;
@@ -22,6 +23,7 @@ use trials::eights;
 use trials::finding;
 use trials::insertions;
 use trials::random::Random;
+use trials::summarizing;
 use trials::texts;
 use trials::zeros::{self, Outcomes};
 
@@ -32,6 +34,7 @@ struct Options {
     insertions: Range<u64>,
     checks: Range<u64>,
     paths: Range<u64>,
+    summaries: Range<u64>,
     seed: u64,
     alone: bool,
     short: bool,
@@ -39,12 +42,13 @@ struct Options {
 
 const USAGE: &str = "trials [--self] [--seed S] [--short | --texts N | --case K] \
                      [--histories N | --history K] [--insertions N | --insertion K] \
-                     [--checks N | --check K] [--paths N | --path K]";
+                     [--checks N | --check K] [--paths N | --path K] \
+                     [--summaries N | --summary K]";
 
 fn options() -> Result<Options, String> {
     let now = SystemTime::now().duration_since(SystemTime::UNIX_EPOCH).unwrap_or_default();
     let (mut texts, mut histories, mut insertions) = (None, None, None);
-    let (mut checks, mut paths) = (None, None);
+    let (mut checks, mut paths, mut summaries) = (None, None, None);
     let (mut seed, mut alone, mut short) = (now.as_nanos() as u64, false, false);
     let mut arguments = std::env::args().skip(1);
     while let Some(argument) = arguments.next() {
@@ -64,6 +68,8 @@ fn options() -> Result<Options, String> {
             "--check" => checks = Some(only(number()?)),
             "--paths" => paths = Some(0..number()?),
             "--path" => paths = Some(only(number()?)),
+            "--summaries" => summaries = Some(0..number()?),
+            "--summary" => summaries = Some(only(number()?)),
             "--seed" => seed = number()?,
             "--self" => alone = true,
             "--short" => short = true,
@@ -74,16 +80,18 @@ fn options() -> Result<Options, String> {
         return Err(format!("--short has {} texts, numbered from 0", texts::SHORT));
     }
     // What isn't named isn't run, unless nothing is named.
-    let named = [texts, histories, insertions, checks, paths];
-    let [texts, histories, insertions, checks, paths] = match named {
-        [None, None, None, None, None] => [0..100_000, 0..10_000, 0..20_000, 0..200_000, 0..20_000],
-        named => named.map(|range| range.unwrap_or(0..0)),
-    };
-    Ok(Options { texts, histories, insertions, checks, paths, seed, alone, short })
+    let mut named = [texts, histories, insertions, checks, paths, summaries];
+    if named.iter().all(Option::is_none) {
+        let counts = [100_000, 10_000, 20_000, 200_000, 20_000, 20_000];
+        named = counts.map(|count| Some(0..count));
+    }
+    let [texts, histories, insertions, checks, paths, summaries] =
+        named.map(|range| range.unwrap_or(0..0));
+    Ok(Options { texts, histories, insertions, checks, paths, summaries, seed, alone, short })
 }
 
 #[cfg(feature = "against")]
-use trials::against::{annotated, checked, compare, edits, found};
+use trials::against::{annotated, checked, compare, edits, found, summarized};
 
 /// Never called: `main` ends before.
 #[cfg(not(feature = "against"))]
@@ -112,6 +120,12 @@ fn checked(_: &[u8], _: &mut eights::Seen) -> Result<(), String> {
 /// And this isn't.
 #[cfg(not(feature = "against"))]
 fn found(_: &mut Random, _: &mut finding::Seen) -> Result<(), String> {
+    Ok(())
+}
+
+/// Nor is this one.
+#[cfg(not(feature = "against"))]
+fn summarized(_: &mut Random, _: &mut summarizing::Seen) -> Result<(), String> {
     Ok(())
 }
 
@@ -366,6 +380,68 @@ fn run_paths(options: &Options) -> Result<(), String> {
     Ok(())
 }
 
+/// So many texts must show some of everything that is counted.
+const MANY_SUMMARIES: u64 = 10_000;
+
+/// The texts to be summarized. The error is what to print.
+fn run_summaries(options: &Options) -> Result<(), String> {
+    let seed = options.seed;
+    let total = options.summaries.end - options.summaries.start;
+    let mut progress = Progress::new();
+    let mut seen = summarizing::Seen::default();
+    for number in options.summaries.clone() {
+        let random = &mut Random::for_case(seed.rotate_left(40), number);
+        let outcome = if options.alone {
+            summarizing::trial(
+                random,
+                summarizing::OnTrial::only(summarizing::second_summary),
+                &mut seen,
+            )
+        } else {
+            summarized(random, &mut seen)
+        };
+        outcome.map_err(|difference| {
+            format!(
+                "difference in summary {number} of seed {seed}; again: \
+                 --seed {seed} --summary {number}\n{difference}"
+            )
+        })?;
+        progress.tell(|| format!("{} of {total} texts with {} summaries", number + 1, seen.calls));
+    }
+    println!(
+        "{total} texts with {} summaries, no difference in answers and {} words, {:.1} s",
+        seen.calls,
+        seen.words,
+        progress.seconds()
+    );
+    println!(
+        "  texts: {} of records, {} with something done to them, and {} others; answers known \
+         beforehand: {}",
+        seen.documents, seen.damaged, seen.elsewhere, seen.known
+    );
+    let [measured, null, absent, unfit] = seen.records;
+    println!(
+        "  records: measured {measured}, null {null}, absent {absent}, unfit {unfit}; at most {} \
+         in a text",
+        seen.most
+    );
+    println!(
+        "  summaries with heights: {}, without any: {}; refused with 21 at the root: {}, at an \
+         element: {}",
+        seen.with_heights, seen.without_heights, seen.root, seen.element
+    );
+    println!(
+        "  refused by the reading: {}, by number {}",
+        seen.refused.values().sum::<u64>(),
+        listed(&seen.refused)
+    );
+    let rare = seen.rare();
+    if total >= MANY_SUMMARIES && !rare.is_empty() {
+        return Err(format!("no trial of what hardly came up: {}", rare.join(", ")));
+    }
+    Ok(())
+}
+
 /// What came up, each with its count.
 fn listed(counts: &BTreeMap<impl Display, u64>) -> String {
     let counts: Vec<_> = counts.iter().map(|(what, count)| format!("{what}: {count}")).collect();
@@ -400,6 +476,9 @@ fn main() -> ExitCode {
     }
     if outcome.is_ok() && !options.paths.is_empty() {
         outcome = run_paths(&options);
+    }
+    if outcome.is_ok() && !options.summaries.is_empty() {
+        outcome = run_summaries(&options);
     }
     match outcome {
         Ok(()) => ExitCode::SUCCESS,
