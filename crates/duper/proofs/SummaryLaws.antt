@@ -11,19 +11,19 @@ use Rattle.summary.specs.declared.summary.Summary.the-variants as S
 use Rattle.duper.specs.Numbers.{summaryNumber, summaryCounts, summaryHeights, SummaryCrosses}
 
 module _ (a : Summary) (lent : List ℕ) (floats : List Float) where
-  pub measured-crosses : (c : Counts) (h : Heights) → S.WithHeights c h ≡ a
+  pub with-crosses : (c : Counts) (h : Heights) → S.WithHeights c h ≡ a
       → SummaryCrosses a 0 lent (c .measured ∷ c .null ∷ c .absent ∷ c .unfit ∷ []) floats (h .least ∷ h .greatest ∷ h .mean ∷ [])
   unfolding summaryNumber summaryCounts summaryHeights
-  measured-crosses c h e =
+  with-crosses c h e =
       record {
         number-is = ap summaryNumber e;
         counts-are = ap (λ (x : Summary). summaryCounts x lent) e;
         heights-are = ap (λ (x : Summary). summaryHeights x floats) e;
       }
 
-  pub unmeasured-crosses : (c : Counts) → S.WithoutHeights c ≡ a → SummaryCrosses a 0 lent (c .measured ∷ c .null ∷ c .absent ∷ c .unfit ∷ []) floats floats
+  pub without-crosses : (c : Counts) → S.WithoutHeights c ≡ a → SummaryCrosses a 0 lent (c .measured ∷ c .null ∷ c .absent ∷ c .unfit ∷ []) floats floats
   unfolding summaryNumber summaryCounts summaryHeights
-  unmeasured-crosses c e =
+  without-crosses c e =
       record {
         number-is = ap summaryNumber e;
         counts-are = ap (λ (x : Summary). summaryCounts x lent) e;

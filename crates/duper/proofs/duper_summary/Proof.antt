@@ -4,7 +4,7 @@ use native.Mathlib.Omega.{arith}
 use lib.ListN.{length}
 use Rattle.text.specs.Switches.{presentEdition}
 use Rattle.summary.proofs.AnswerLaws.{summary-place}
-use Rattle.duper.proofs.SummaryLaws.{measured-crosses, unmeasured-crosses, refusal-crosses}
+use Rattle.duper.proofs.SummaryLaws.{with-crosses, without-crosses, refusal-crosses}
 use borrow.Author.Needs.{needs}
 use Rattle.duper.proofs.duper_summary.Statement.{statement}
 use Rattle.duper.proofs.duper_summary.Tie as tie
@@ -37,13 +37,13 @@ same-length : tie.Need-same-length
 same-length c = omega arith
 
 returns : tie.Need-returns
-returns c = (measured-crosses _ _ _ _ _ (sym (c .before .before .before .c .given .1) ∙ c .before .before .before .before .before .before .before .summarize .ensures .0), c .before .before .before .before .before .before .before .summarize .ensures .1)
+returns c = (with-crosses _ _ _ _ _ (sym (c .before .before .before .c .given .1) ∙ c .before .before .before .before .before .before .before .summarize .ensures .0), c .before .before .before .before .before .before .before .summarize .ensures .1)
 
 same-length-2 : tie.Need-same-length-2
 same-length-2 c = omega arith
 
 returns-2 : tie.Need-returns-2
-returns-2 c = (unmeasured-crosses _ _ _ _ (sym (c .before .before .c2 .given .1) ∙ c .before .before .before .before .before .before .summarize .ensures .0), c .before .before .before .before .before .before .summarize .ensures .1)
+returns-2 c = (without-crosses _ _ _ _ (sym (c .before .before .c2 .given .1) ∙ c .before .before .before .before .before .before .summarize .ensures .0), c .before .before .before .before .before .before .summarize .ensures .1)
 
 same-length-3 : tie.Need-same-length-3
 same-length-3 c = omega arith

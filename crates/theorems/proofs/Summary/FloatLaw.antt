@@ -31,7 +31,7 @@ use Rattle.summary.specs.declared.summary.Heights.{Heights}
 use Rattle.summary.specs.declared.summary.Summary.{Summary}
 use Rattle.summary.specs.declared.summary.Summary.the-variants as S
 use Rattle.summary.proofs.SummaryLaws.{Low, heights-low, measured-length}
-use Rattle.summary.proofs.AnswerLaws.{measured-few}
+use Rattle.summary.proofs.AnswerLaws.{with-few}
 use Rattle.theorems.specs.Summary.{Holds, ExtremesHeld, Is, Floats, HeightsHeld, MissingApart}
 
 -- ---- the least and the greatest
@@ -210,11 +210,12 @@ module _ (sw : Switches) (text : List ℕ) (a : Summary) (no-refusal : (number p
       cond-case (λ (s : Summary). s ≡ a) (ofHeights (recordHeights sw text (childrenOf tree)) ≡ a) (isArray tree) e
       (λ _ f. of-records (childrenOf tree) (firstThat (λ c. not (isObject c)) 1 (childrenOf tree)) f) (λ _ f. absurd (no-refusal 21 0 f))
 
-measured-is : (c : Counts) (h : Heights) (number place : ℕ) → S.Refused number place ≡ S.WithHeights c h → ⊥
-measured-is c h number place e = let v : _≡_ {A = ℕ} 0 1 = cc in omega arith
+-- neither kind of summary is a refusal
+with-is : (c : Counts) (h : Heights) (number place : ℕ) → S.Refused number place ≡ S.WithHeights c h → ⊥
+with-is c h number place e = let v : _≡_ {A = ℕ} 0 1 = cc in omega arith
 
-unmeasured-is : (c : Counts) (number place : ℕ) → S.Refused number place ≡ S.WithoutHeights c → ⊥
-unmeasured-is c number place e = let v : _≡_ {A = ℕ} 0 1 = cc in omega arith
+without-is : (c : Counts) (number place : ℕ) → S.Refused number place ≡ S.WithoutHeights c → ⊥
+without-is c number place e = let v : _≡_ {A = ℕ} 0 1 = cc in omega arith
 
 pub heights-held : HeightsHeld
 unfolding HeightsHeld summary ofHeights countsOf
@@ -222,9 +223,9 @@ heights-held sw words text =
     record {
       some-measured = λ c h tree e r.
           let hs = recordHeights sw text (childrenOf tree) in
-          let g = held-by hs c h (measuredHeights hs) refl (of-root sw text (S.WithHeights c h) (measured-is c h) tree (sym (ap (summary sw text) r) ∙ e)) in
+          let g = held-by hs c h (measuredHeights hs) refl (of-root sw text (S.WithHeights c h) (with-is c h) tree (sym (ap (summary sw text) r) ∙ e)) in
           let n : c .measured ≡ length (g .0 ∷ g .1) = ap (λ (x : Counts). x .measured) (g .3) ∙ measured-length hs ∙ ap (λ (x : List ℕ). length x) (g .2) in
-          let few = measured-few sw words text c h (sym e) in (
+          let few = with-few sw words text c h (sym e) in (
             g .0,
             g .1,
             g .2,
@@ -234,7 +235,7 @@ heights-held sw words text =
           );
       none-measured = λ c tree e r.
           let hs = recordHeights sw text (childrenOf tree) in
-          let g = none-by hs c (measuredHeights hs) refl (of-root sw text (S.WithoutHeights c) (unmeasured-is c) tree (sym (ap (summary sw text) r) ∙ e)) in
+          let g = none-by hs c (measuredHeights hs) refl (of-root sw text (S.WithoutHeights c) (without-is c) tree (sym (ap (summary sw text) r) ∙ e)) in
           (g .0, ap (λ (x : Counts). x .measured) (g .1) ∙ measured-length hs ∙ ap (λ (x : List ℕ). length x) (g .0));
     }
 
