@@ -1,5 +1,5 @@
-// What the programs `list`, `find` and `summarize` have in common: how a text's bytes come in, the lines that go out, and a
-// refusal in words.
+// What the programs have in common: how a text's bytes come in, and the lines that go out; and a refusal in words, for
+// `summarize`.
 pub mod input;
 pub mod lines;
 pub mod words;

@@ -114,10 +114,10 @@ pub extern "C" fn duper_find(text: &[u8], table: &mut [u32], path: &[u8]) -> u64
     }
 }
 
-// Reads a text of the present edition into the table, and summarizes it: 0, or else the refusal times 4294967296 plus its place, that of the
-// reading, or 21 and the number of the node that is no array or no object. `counts` is then how many heights are measured, null, absent and
-// unfit, and `heights` the least, the greatest and the mean of the measured ones, in micrometres. A refusal leaves both as they were, and so
-// do no measured heights the `heights`.
+// Reads a text of the present edition into the table, and summarizes it: 0, or else the refusal times 4294967296 plus its place: that of the
+// reading; or 21 and 0 for a root that is no array, else the number of the first element that is no object. `counts` is then how many heights
+// are measured, null, absent and unfit, and `heights` the least, the greatest and the mean of the measured ones, in micrometres. A refusal
+// leaves both as they were. Where no height is measured, `heights` stays as it was.
 #[no_mangle]
 pub extern "C" fn duper_summary(
     text: &[u8],

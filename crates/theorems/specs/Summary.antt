@@ -1,5 +1,6 @@
--- Req 05, "The season's summary": what it is for a height to be measured, said by arithmetic; which texts have a summary, and which node the
--- refusal 21 names; that the counts add up; what the three heights are as numbers; and some texts, worked out by hand.
+-- Req 05, "The season's summary": what it is for a height to be measured, said by arithmetic, and what a record's height is; which texts have
+-- a summary, and which node the refusal 21 names; that the counts add up; what the three heights are as numbers, and that a missing height
+-- changes none of them; what the call for C tells; and some texts, worked out by hand.
 -- By its contract `summarize_edition` (summary/src/summary.rt) answers `summary`, and what `duper_summary` (duper/src/lib.rt) leaves is in
 -- `SummaryCrosses`.
 -- Assumes nothing.

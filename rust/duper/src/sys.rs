@@ -31,7 +31,7 @@ extern "C" {
     /// Answers 0, or refusal times 4294967296 plus place, which for 21 is a
     /// node's number; in `counts` how many heights are measured, null, absent and
     /// unfit, and in `heights` the least, the greatest and the mean. A refusal
-    /// leaves both as they were, and no measured height leaves `heights` so.
+    /// leaves both as they were. Where no height is measured, `heights` stays.
     /// `table_len` is in words.
     fn duper_summary(
         text: *const u8,

@@ -137,7 +137,7 @@ cross A D B E a b p q =
     let z : a * D * E * b ≡ a * (b * E * D) = simp (mul-assoc, mul-comm, mul-left-comm) in
     (λ i. x i * E * b) ∙ z ∙ (λ i. a * (y i * D))
 
--- whole numbers as floats, divided: their exactQuotient, rounded once
+-- whole numbers as floats, divided: their exact quotient, rounded once
 div-whole : (x y : Float) (a b : ℕ) → Is x a → Is y b → 0 < b → div binary64 x y ≡ round binary64 false a b
 unfolding div
 div-whole nan y a b p q h = absurd p
