@@ -8,6 +8,7 @@ use crate::finding::{by_known, by_second, call, known, second_find, trial};
 use crate::finding::{Finder, OnTrial, Seen};
 use crate::paths;
 use crate::random::Random;
+use crate::wrong;
 
 /// A reading, as a finder sees it.
 pub(crate) struct View<'t> {
@@ -833,25 +834,17 @@ const TEXTS: u64 = 4_000;
 /// A wrong finder is seen by what is known from the making alone, and by what
 /// `second` answers.
 fn is_seen(name: &str, finder: impl Fn(&[u8], &mut [u32], &[u8]) -> Answer) {
-    let [mut by_making, mut by_other] = [None, None];
-    for number in 0..TEXTS {
+    wrong::is_seen(name, TEXTS, |number| {
         let case = paths::case(&mut Random::for_case(21, number)).unwrap();
+        let [mut by_making, mut by_other] = [false; 2];
         for asked in &case.asked {
             let ours = call(&case, asked, &finder);
             let known = known(&case, asked);
-            if known.is_making && by_known(asked, &known, &ours).is_err() {
-                by_making.get_or_insert(number);
-            }
-            if by_second(&ours, &call(&case, asked, second_find)).is_err() {
-                by_other.get_or_insert(number);
-            }
+            by_making |= known.is_making && by_known(asked, &known, &ours).is_err();
+            by_other |= by_second(&ours, &call(&case, asked, second_find)).is_err();
         }
-        if let (Some(making), Some(other)) = (by_making, by_other) {
-            println!("{name}: seen in text {making} by its making, in {other} by second");
-            return;
-        }
-    }
-    panic!("{name}: by the making {by_making:?}, by second {by_other:?}");
+        [by_making, by_other]
+    });
 }
 
 /// What the wrong finders are made of is right.

@@ -44,4 +44,6 @@ pub mod summarizing;
 pub mod texts;
 pub mod trees;
 pub mod writer;
+#[cfg(test)]
+mod wrong;
 pub mod zeros;

@@ -4,7 +4,8 @@ use native.Mathlib.Omega.{arith}
 use lib.ListN.{length}
 use Rattle.text.specs.Switches.{presentEdition}
 use Rattle.summary.proofs.AnswerLaws.{summary-place}
-use Rattle.duper.proofs.SummaryLaws.{with-crosses, without-crosses, refusal-crosses}
+use Rattle.duper.proofs.SummaryLaws.{crosses}
+use Rattle.duper.specs.Numbers.{summaryNumber, summaryCounts, summaryHeights}
 use borrow.Author.Needs.{needs}
 use Rattle.duper.proofs.duper_summary.Statement.{statement}
 use Rattle.duper.proofs.duper_summary.Tie as tie
@@ -37,19 +38,22 @@ same-length : tie.Need-same-length
 same-length c = omega arith
 
 returns : tie.Need-returns
-returns c = (with-crosses _ _ _ _ _ (sym (c .before .before .before .c .given .1) ∙ c .before .before .before .before .before .before .before .summarize .ensures .0), c .before .before .before .before .before .before .before .summarize .ensures .1)
+unfolding summaryNumber summaryCounts summaryHeights
+returns c = (crosses _ _ _ _ (sym (c .before .before .before .c .given .1) ∙ c .before .before .before .before .before .before .before .summarize .ensures .0), c .before .before .before .before .before .before .before .summarize .ensures .1)
 
 same-length-2 : tie.Need-same-length-2
 same-length-2 c = omega arith
 
 returns-2 : tie.Need-returns-2
-returns-2 c = (without-crosses _ _ _ _ (sym (c .before .before .c2 .given .1) ∙ c .before .before .before .before .before .before .summarize .ensures .0), c .before .before .before .before .before .before .summarize .ensures .1)
+unfolding summaryNumber summaryCounts summaryHeights
+returns-2 c = (crosses _ _ _ _ (sym (c .before .before .c2 .given .1) ∙ c .before .before .before .before .before .before .summarize .ensures .0), c .before .before .before .before .before .before .summarize .ensures .1)
 
 same-length-3 : tie.Need-same-length-3
 same-length-3 c = omega arith
 
 returns-3 : tie.Need-returns-3
-returns-3 c = (refusal-crosses _ _ _ _ _ (sym (c .before .number .given .1) ∙ c .before .before .before .before .before .summarize .ensures .0), c .before .before .before .before .before .summarize .ensures .1)
+unfolding summaryNumber summaryCounts summaryHeights
+returns-3 c = (crosses _ _ _ _ (sym (c .before .number .given .1) ∙ c .before .before .before .before .before .summarize .ensures .0), c .before .before .before .before .before .summarize .ensures .1)
 
 pub duper-summary-spec : {M : Type 1} → statement M
 duper-summary-spec =

@@ -71,17 +71,17 @@ in-range (some w) u e =
 range-in : (o : Option ℕ) (u : ℕ) → o ≡ some u → u ≤ 10000000 → asHeight o ≡ H.Measured u
 range-in o u e l = ap asHeight e ∙ sym (measured-in u l)
 
-never-null : (o : Option ℕ) → asHeight o ≡ H.Null → ⊥
+-- it gives measured and unfit alone
+never : (h : Height) → (H.Unfit ≡ h → ⊥) → ((u : ℕ) → H.Measured u ≡ h → ⊥) → (o : Option ℕ) → asHeight o ≡ h → ⊥
 unfolding asHeight
-never-null none e = unfit-null e
-never-null (some w) e =
-    cond-case (λ (h : Height). h ≡ H.Null) ⊥ (leb w 10000000) e (λ _ f. null-measured w (sym f)) (λ _ f. unfit-null f)
+never h n m none e = n e
+never h n m (some w) e = cond-case (λ (k : Height). k ≡ h) ⊥ (leb w 10000000) e (λ _ f. m w f) (λ _ f. n f)
+
+never-null : (o : Option ℕ) → asHeight o ≡ H.Null → ⊥
+never-null = never H.Null unfit-null (λ u e. null-measured u (sym e))
 
 never-absent : (o : Option ℕ) → asHeight o ≡ H.Absent → ⊥
-unfolding asHeight
-never-absent none e = unfit-absent e
-never-absent (some w) e =
-    cond-case (λ (h : Height). h ≡ H.Absent) ⊥ (leb w 10000000) e (λ _ f. absent-measured w (sym f)) (λ _ f. unfit-absent f)
+never-absent = never H.Absent unfit-absent (λ u e. absent-measured u (sym e))
 
 -- ---- a decimal
 

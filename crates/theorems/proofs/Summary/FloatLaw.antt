@@ -5,9 +5,8 @@ use Prim.Native.Nat.{ℕ, suc, _+_, _*_, _≤_, _<_, min, max}
 use native.Mathlib.Nat.{mul-assoc, mul-comm, mul-left-comm, mul-one, mul-pos}
 use native.Mathlib.Decide.{decLt}
 use native.Mathlib.Omega.{arith}
-use mathlib.Core.Bool.{true, false, not, cond, true≢false}
+use mathlib.Core.Bool.{true, false, cond, true≢false}
 use mathlib.Core.Logic.{_⊎_, inl, inr}
-use mathlib.Core.Option.{Option, none, some}
 use mathlib.Core.List.{List, [], _∷_}
 use lib.Dec.{T, eqb}
 use lib.ListN.{length}
@@ -19,20 +18,18 @@ use lib.Ieee.Order.{round-mono}
 use lib.Ieee.Positive.{first-pos}
 use lib.Ieee.Scale.{round-same}
 use borrow.Author.Tests.{ne-eqb}
-use Rattle.text.specs.declared.switches.Switches.{Switches}
-use Rattle.text.proofs.Choice.{cond-case, cond-false}
-use Rattle.reader.specs.Tree.{Tree, Forest}
-use Rattle.nodes.specs.Nodes.{childrenOf, Numbered, firstThat}
-use Rattle.summary.specs.Summary.{recordHeights, isMeasured, countsOf, measuredHeights, least, greatest, sumOf, asFloat, mean, heightsOf, summaryOf, ofHeights, isObject, isArray, ofRecords, ofRoot, summary}
+use Rattle.text.proofs.Choice.{cond-false}
+use Rattle.nodes.specs.Nodes.{childrenOf}
+use Rattle.summary.specs.Summary.{recordHeights, isMeasured, countsOf, measuredHeights, least, greatest, sumOf, asFloat, mean, heightsOf, summaryOf, ofHeights, summary}
 use Rattle.summary.specs.declared.heights.Height.{Height}
 use Rattle.summary.specs.declared.heights.Height.the-variants as H
 use Rattle.summary.specs.declared.summary.Counts.{Counts}
 use Rattle.summary.specs.declared.summary.Heights.{Heights}
-use Rattle.summary.specs.declared.summary.Summary.{Summary}
 use Rattle.summary.specs.declared.summary.Summary.the-variants as S
 use Rattle.summary.proofs.SummaryLaws.{Low, heights-low, measured-length}
 use Rattle.summary.proofs.AnswerLaws.{with-few}
 use Rattle.theorems.specs.Summary.{Holds, ExtremesHeld, Is, Floats, HeightsHeld, MissingApart}
+use Rattle.theorems.proofs.Summary.ShapeLaw.{of-array}
 
 -- ---- the least and the greatest
 
@@ -50,35 +47,45 @@ either-held x u v w l (inr e) (inl q) = inr (inl (q ∙ e))
 either-held x u v w l (inl e) (inr h) = inr (inr h)
 either-held x u v w l (inr e) (inr h) = inr (inr h)
 
-held-first : (u : ℕ) (l : List ℕ) → Holds u (u ∷ l)
-unfolding Holds
-held-first u l = inl refl
+-- one of two that is taken on and on, as min and max are: what comes out is one of all
+module _ (F : ℕ → List ℕ → ℕ) (f : ℕ → ℕ → ℕ) (base : (u : ℕ) → F u [] ≡ u) (step : (u v : ℕ) (l : List ℕ) → F u (v ∷ l) ≡ F (f u v) l) where
+  taken-held : ((u v : ℕ) → (f u v ≡ u) ⊎ (f u v ≡ v)) → (u : ℕ) (l : List ℕ) → Holds (F u l) (u ∷ l)
+  unfolding Holds
+  taken-held one u [] = inl (base u)
+  taken-held one u (v ∷ l) =
+      subst (λ (x : ℕ). Holds x (u ∷ v ∷ l)) (sym (step u v l)) (either-held (F (f u v) l) u v (f u v) l (one u v) (taken-held one (f u v) l))
+
+  -- and is to all as it is to two
+  taken-all : (R : ℕ → ℕ → Type 0) → ((x : ℕ) → R x x) → ((x y z : ℕ) → R x y → R y z → R x z) → ((u v : ℕ) → R (f u v) u × R (f u v) v)
+      → (u : ℕ) (l : List ℕ) (v : ℕ) → Holds v (u ∷ l) → R (F u l) v
+  unfolding Holds
+  taken-all R same on both u [] v (inl e) = subst (λ (x : ℕ). R x v) (sym (base u)) (subst (R u) (sym e) (same u))
+  taken-all R same on both u [] v (inr h) = absurd h
+  taken-all R same on both u (w ∷ l) v (inl e) =
+      subst (λ (x : ℕ). R x v) (sym (step u w l))
+      (on (F (f u w) l) (f u w) v (taken-all R same on both (f u w) l (f u w) (inl refl)) (subst (R (f u w)) (sym e) (both u w .0)))
+  taken-all R same on both u (w ∷ l) v (inr (inl e)) =
+      subst (λ (x : ℕ). R x v) (sym (step u w l))
+      (on (F (f u w) l) (f u w) v (taken-all R same on both (f u w) l (f u w) (inl refl)) (subst (R (f u w)) (sym e) (both u w .1)))
+  taken-all R same on both u (w ∷ l) v (inr (inr h)) = subst (λ (x : ℕ). R x v) (sym (step u w l)) (taken-all R same on both (f u w) l v (inr h))
 
 least-held : (u : ℕ) (l : List ℕ) → Holds (least u l) (u ∷ l)
 unfolding least
-least-held u [] = held-first u []
-least-held u (v ∷ l) = either-held (least (min u v) l) u v (min u v) l (min-case u v) (least-held (min u v) l)
+least-held = taken-held least min (λ u. refl) (λ u v l. refl) min-case
 
 greatest-held : (u : ℕ) (l : List ℕ) → Holds (greatest u l) (u ∷ l)
 unfolding greatest
-greatest-held u [] = held-first u []
-greatest-held u (v ∷ l) = either-held (greatest (max u v) l) u v (max u v) l (max-case u v) (greatest-held (max u v) l)
+greatest-held = taken-held greatest max (λ u. refl) (λ u v l. refl) max-case
 
 least-all : (u : ℕ) (l : List ℕ) (v : ℕ) → Holds v (u ∷ l) → least u l ≤ v
-unfolding least Holds
-least-all u [] v (inl e) = omega arith
-least-all u [] v (inr h) = absurd h
-least-all u (w ∷ l) v (inl e) = let q = least-all (min u w) l (min u w) (inl refl) in omega arith
-least-all u (w ∷ l) v (inr (inl e)) = let q = least-all (min u w) l (min u w) (inl refl) in omega arith
-least-all u (w ∷ l) v (inr (inr h)) = least-all (min u w) l v (inr h)
+unfolding least
+least-all =
+    taken-all least min (λ u. refl) (λ u v l. refl) (λ x y. x ≤ y) (λ x. omega arith) (λ x y z p q. omega arith) (λ u v. (omega arith, omega arith))
 
 greatest-all : (u : ℕ) (l : List ℕ) (v : ℕ) → Holds v (u ∷ l) → v ≤ greatest u l
-unfolding greatest Holds
-greatest-all u [] v (inl e) = omega arith
-greatest-all u [] v (inr h) = absurd h
-greatest-all u (w ∷ l) v (inl e) = let q = greatest-all (max u w) l (max u w) (inl refl) in omega arith
-greatest-all u (w ∷ l) v (inr (inl e)) = let q = greatest-all (max u w) l (max u w) (inl refl) in omega arith
-greatest-all u (w ∷ l) v (inr (inr h)) = greatest-all (max u w) l v (inr h)
+unfolding greatest
+greatest-all =
+    taken-all greatest max (λ u. refl) (λ u v l. refl) (λ x y. y ≤ x) (λ x. omega arith) (λ x y z p q. omega arith) (λ u v. (omega arith, omega arith))
 
 pub extremes-held : ExtremesHeld
 unfolding ExtremesHeld
@@ -95,23 +102,16 @@ extremes-held u l =
 times-suc : (x n : ℕ) → x * suc n ≡ x + x * n
 times-suc x n = omega arith
 
-sum-above : (x : ℕ) (l : List ℕ) → ((v : ℕ) → Holds v l → x ≤ v) → x * length l ≤ sumOf l
+-- between the least that it can be and the greatest
+sum-between : (x y : ℕ) (l : List ℕ) → ((v : ℕ) → Holds v l → (x ≤ v) × (v ≤ y)) → (x * length l ≤ sumOf l) × (sumOf l ≤ y * length l)
 unfolding sumOf Holds
-sum-above x [] h = omega arith
-sum-above x (u ∷ l) h =
+sum-between x y [] h = (omega arith, omega arith)
+sum-between x y (u ∷ l) h =
     let a = h u (inl refl) in
-    let b = sum-above x l (λ v q. h v (inr q)) in
-    let e = times-suc x (length l) in
-    omega arith
-
-sum-below : (x : ℕ) (l : List ℕ) → ((v : ℕ) → Holds v l → v ≤ x) → sumOf l ≤ x * length l
-unfolding sumOf Holds
-sum-below x [] h = omega arith
-sum-below x (u ∷ l) h =
-    let a = h u (inl refl) in
-    let b = sum-below x l (λ v q. h v (inr q)) in
-    let e = times-suc x (length l) in
-    omega arith
+    let b = sum-between x y l (λ v q. h v (inr q)) in
+    let d = times-suc x (length l) in
+    let e = times-suc y (length l) in
+    (omega arith, omega arith)
 
 low-held : (l : List ℕ) → Low l → (v : ℕ) → Holds v l → v ≤ 10000000
 unfolding Low Holds
@@ -169,9 +169,10 @@ unfolding heightsOf mean
 floats-of u l w h =
     let a = low-held (u ∷ l) w (least u l) (least-held u l) in
     let b = low-held (u ∷ l) w (greatest u l) (greatest-held u l) in
-    let s = sum-below 10000000 (u ∷ l) (low-held (u ∷ l) w) in
-    let lower : least u l * length (u ∷ l) ≤ sumOf (u ∷ l) * 1 = let q = sum-above (least u l) (u ∷ l) (least-all u l) in omega arith in
-    let upper : sumOf (u ∷ l) * 1 ≤ greatest u l * length (u ∷ l) = let q = sum-below (greatest u l) (u ∷ l) (greatest-all u l) in omega arith in
+    let s = sum-between 0 10000000 (u ∷ l) (λ v q. (omega arith, low-held (u ∷ l) w v q)) .1 in
+    let t = sum-between (least u l) (greatest u l) (u ∷ l) (λ v q. (least-all u l v q, greatest-all u l v q)) in
+    let lower : least u l * length (u ∷ l) ≤ sumOf (u ∷ l) * 1 = let q = t .0 in omega arith in
+    let upper : sumOf (u ∷ l) * 1 ≤ greatest u l * length (u ∷ l) = let q = t .1 in omega arith in
     let m = div-whole (asFloat (sumOf (u ∷ l))) (asFloat (length (u ∷ l))) (sumOf (u ∷ l)) (length (u ∷ l)) (whole (sumOf (u ∷ l)) (omega arith))
     (whole (length (u ∷ l)) (omega arith)) (omega arith) in
     record {
@@ -197,19 +198,6 @@ unfolding summaryOf
 none-by hs c [] e q = (e, cc)
 none-by hs c (u ∷ k) e q = let v : _≡_ {A = ℕ} 0 1 = cc in absurd (omega arith)
 
--- a root's summary that is no refusal is that of its records
-module _ (sw : Switches) (text : List ℕ) (a : Summary) (no-refusal : (number place : ℕ) → S.Refused number place ≡ a → ⊥) where
-  of-records : (f : Forest) (o : Option Numbered) → ofRecords sw text f o ≡ a → ofHeights (recordHeights sw text f) ≡ a
-  unfolding ofRecords
-  of-records f none e = e
-  of-records f (some c) e = absurd (no-refusal 21 (c .number) e)
-
-  of-root : (tree : Tree) → ofRoot sw text tree ≡ a → ofHeights (recordHeights sw text (childrenOf tree)) ≡ a
-  unfolding ofRoot
-  of-root tree e =
-      cond-case (λ (s : Summary). s ≡ a) (ofHeights (recordHeights sw text (childrenOf tree)) ≡ a) (isArray tree) e
-      (λ _ f. of-records (childrenOf tree) (firstThat (λ c. not (isObject c)) 1 (childrenOf tree)) f) (λ _ f. absurd (no-refusal 21 0 f))
-
 -- neither kind of summary is a refusal
 with-is : (c : Counts) (h : Heights) (number place : ℕ) → S.Refused number place ≡ S.WithHeights c h → ⊥
 with-is c h number place e = let v : _≡_ {A = ℕ} 0 1 = cc in omega arith
@@ -223,7 +211,7 @@ heights-held sw words text =
     record {
       some-measured = λ c h tree e r.
           let hs = recordHeights sw text (childrenOf tree) in
-          let g = held-by hs c h (measuredHeights hs) refl (of-root sw text (S.WithHeights c h) (with-is c h) tree (sym (ap (summary sw text) r) ∙ e)) in
+          let g = held-by hs c h (measuredHeights hs) refl (of-array sw text (S.WithHeights c h) (with-is c h) tree (sym (ap (summary sw text) r) ∙ e) .1) in
           let n : c .measured ≡ length (g .0 ∷ g .1) = ap (λ (x : Counts). x .measured) (g .3) ∙ measured-length hs ∙ ap (λ (x : List ℕ). length x) (g .2) in
           let few = with-few sw words text c h (sym e) in (
             g .0,
@@ -235,7 +223,7 @@ heights-held sw words text =
           );
       none-measured = λ c tree e r.
           let hs = recordHeights sw text (childrenOf tree) in
-          let g = none-by hs c (measuredHeights hs) refl (of-root sw text (S.WithoutHeights c) (without-is c) tree (sym (ap (summary sw text) r) ∙ e)) in
+          let g = none-by hs c (measuredHeights hs) refl (of-array sw text (S.WithoutHeights c) (without-is c) tree (sym (ap (summary sw text) r) ∙ e) .1) in
           (g .0, ap (λ (x : Counts). x .measured) (g .1) ∙ measured-length hs ∙ ap (λ (x : List ℕ). length x) (g .0));
     }
 

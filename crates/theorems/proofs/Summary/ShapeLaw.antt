@@ -1,6 +1,6 @@
 -- Which texts have a summary, which node 21 names, and that the counts add up.
 -- Assumes nothing.
-use mathlib.Core.Path.{_≡_, refl, sym, ap, _∙_}
+use mathlib.Core.Path.{_≡_, refl, sym, ap, _∙_, subst}
 use Prim.Native.Nat.{ℕ, zero, suc, _+_, _≤_, _<_}
 use native.Mathlib.Omega.{arith}
 use mathlib.Core.Bool.{Bool, true, false, not}
@@ -16,8 +16,8 @@ use Rattle.reader.specs.Syntax.{Outcome, taken, refused}
 use Rattle.reader.specs.Reading.{reading, nodeCount, tableOf, wordOf}
 use Rattle.reader.proofs.NumberBound.{NumberWithin, number-law}
 use Rattle.nodes.specs.Nodes.{kindOf, childrenOf, hasKey, Numbered, numbered, firstThat, nth, member, element}
-use Rattle.nodes.proofs.WordLaws.{some-is, none-is, size-pos, scalar-high, ownWord, word-count}
-use Rattle.nodes.proofs.NodeLaws.{root-node, node-root, node-fits, node-taken, child-node, first-among}
+use Rattle.nodes.proofs.WordLaws.{some-is, none-is, scalar-high, ownWord, word-count}
+use Rattle.nodes.proofs.NodeLaws.{root-node, node-taken}
 use Rattle.nodes.proofs.KeyLaws.{only-member}
 use Rattle.summary.specs.Summary.{memberHeight, recordHeight, recordHeights, countsOf, measuredHeights, summaryOf, ofHeights, isObject, isArray, ofRecords, ofRoot, summary}
 use Rattle.summary.specs.declared.summary.Counts.{Counts}
@@ -25,7 +25,7 @@ use Rattle.summary.specs.declared.summary.Summary.{Summary}
 use Rattle.summary.specs.declared.summary.Summary.the-variants as S
 use Rattle.summary.proofs.RecordLaws.{isOther, any-number}
 use Rattle.summary.proofs.SummaryLaws.{counts-add-up, elements, other-root, array-root}
-use Rattle.summary.proofs.AnswerLaws.{recordsOf, heights-length}
+use Rattle.summary.proofs.AnswerLaws.{recordsOf, heights-length, OfRoot, of-root}
 use Rattle.theorems.specs.Summary.{countsIn, Records, FirstOther, SummariesAnswered, RecordsRead, CountsAddUp}
 
 -- ---- the first that passes a test, and the i-th
@@ -91,62 +91,37 @@ module _ (sw : Switches) (text : List ℕ) where
   unfolding ofRecords element
   by-records t R = ap (ofRecords sw text (childrenOf t)) (all-fail isOther 1 (childrenOf t) (λ i c q. kind-object (c .value) (R .objects i c q)))
 
-  -- the counts of a root
-  counted-by : (t : Tree) (c : Counts) (o : Option Numbered) → firstThat isOther 1 (childrenOf t) ≡ o → countsIn (ofRecords sw text (childrenOf t) o) ≡ some c
-      → ((i : ℕ) (d : Numbered) → element i 0 t ≡ some d → kindOf (d .value) ≡ 1) × (c ≡ countsOf (recordHeights sw text (childrenOf t)))
-  unfolding ofRecords ofHeights countsIn element
-  counted-by t c none q e = (
-    (λ i d r. object-kind (d .value) (none-passes isOther 1 (childrenOf t) i d q r)),
-    some-is (sym e ∙ with-counts (countsOf (recordHeights sw text (childrenOf t))) (measuredHeights (recordHeights sw text (childrenOf t)))),
-  )
-  counted-by t c (some d) q e = none-is e
+  -- a root's summary that is no refusal is that of its records
+  module _ (a : Summary) (summarized : (number place : ℕ) → S.Refused number place ≡ a → ⊥) where
+    of-records : (t : Tree) (o : Option Numbered) → firstThat isOther 1 (childrenOf t) ≡ o → ofRecords sw text (childrenOf t) o ≡ a
+        → ((i : ℕ) (d : Numbered) → element i 0 t ≡ some d → kindOf (d .value) ≡ 1) × (ofHeights (recordHeights sw text (childrenOf t)) ≡ a)
+    unfolding ofRecords element
+    of-records t none q e = ((λ i d r. object-kind (d .value) (none-passes isOther 1 (childrenOf t) i d q r)), e)
+    of-records t (some c) q e = absurd (summarized 21 (c .number) e)
 
-  root-counted : (t : Tree) (c : Counts) → countsIn (ofRoot sw text t) ≡ some c → Records t × (c ≡ countsOf (recordHeights sw text (childrenOf t)))
-  unfolding ofRoot isArray countsIn
-  root-counted t c e =
-      cond-case (λ (a : Summary). countsIn a ≡ some c) (Records t × (c ≡ countsOf (recordHeights sw text (childrenOf t)))) (eqb (kindOf t) 2) e
-      (λ z f.
-      let r = counted-by t c (firstThat isOther 1 (childrenOf t)) refl f in
-      (record { array = eqb-true (kindOf t) 2 z; objects = r .0 }, r .1))
-      (λ _ f. none-is f)
+    pub of-array : (t : Tree) → ofRoot sw text t ≡ a → Records t × (ofHeights (recordHeights sw text (childrenOf t)) ≡ a)
+    unfolding ofRoot isArray
+    of-array t e =
+        cond-case (λ (s : Summary). s ≡ a) (Records t × (ofHeights (recordHeights sw text (childrenOf t)) ≡ a)) (eqb (kindOf t) 2) e
+        (λ z f.
+        let r = of-records t (firstThat isOther 1 (childrenOf t)) refl f in
+        (record { array = eqb-true (kindOf t) 2 z; objects = r .0 }, r .1))
+        (λ _ f. absurd (summarized 21 0 f))
 
   pub counted-root : (o : Outcome) (c : Counts) → countsIn (summary sw text o) ≡ some c
       → (t : Tree) × (o ≡ taken t) × Records t × (c ≡ countsOf (recordHeights sw text (childrenOf t)))
-  unfolding summary countsIn
-  counted-root (taken t) c e = let r = root-counted t c e in (t, refl, r .0, r .1)
+  unfolding summary countsIn ofHeights
+  counted-root (taken t) c e =
+      let hs = recordHeights sw text (childrenOf t) in
+      let r = of-array (ofRoot sw text t) (λ number place f. none-is (ap countsIn f ∙ e)) t refl in
+      (t, refl, r .0, some-is (sym e ∙ ap countsIn (sym (r .1)) ∙ with-counts (countsOf hs) (measuredHeights hs)))
   counted-root (refused number place) c e = none-is e
 
   -- ---- its numbers
 
-  -- a summary of records is no refusal
-  no-refusal : (c : Counts) (l : List ℕ) (number place : ℕ) → summaryOf c l ≡ S.Refused number place → ⊥
-  unfolding summaryOf
-  no-refusal c [] number place e = let v : _≡_ {A = ℕ} 0 1 = cc in omega arith
-  no-refusal c (u ∷ l) number place e = let v : _≡_ {A = ℕ} 0 1 = cc in omega arith
-
-  records-named : (t : Tree) (o : Option Numbered) (number place : ℕ) → firstThat isOther 1 (childrenOf t) ≡ o
-      → ofRecords sw text (childrenOf t) o ≡ S.Refused number place → (number ≡ 21) × (place < size t)
-  unfolding ofRecords ofHeights
-  records-named t none number place q e =
-      absurd (no-refusal (countsOf (recordHeights sw text (childrenOf t))) (measuredHeights (recordHeights sw text (childrenOf t))) number place e)
-  records-named t (some c) number place q e =
-      let n = child-node t 0 t c (node-root t) (first-among isOther 1 (childrenOf t) c q) in
-      let f = node-fits (c .value) t (c .number) n in
-      let p = size-pos (c .value) in
-      let k : c .number ≡ place = cc in
-      let m : 21 ≡ number = cc in
-      (omega arith, omega arith)
-
   root-named : (t : Tree) (number place : ℕ) → ofRoot sw text t ≡ S.Refused number place → (number ≡ 21) × (place < size t)
-  unfolding ofRoot
-  root-named t number place e =
-      cond-case (λ (a : Summary). a ≡ S.Refused number place) ((number ≡ 21) × (place < size t)) (isArray t) e
-      (λ _ f. records-named t (firstThat isOther 1 (childrenOf t)) number place refl f)
-      (λ _ f.
-      let k : 0 ≡ place = cc in
-      let m : 21 ≡ number = cc in
-      let p = size-pos t in
-      (omega arith, omega arith))
+  unfolding OfRoot
+  root-named t number place e = subst (OfRoot (size t)) e (of-root sw text t)
 
   named-node : (o : Outcome) (place : ℕ) → NumberWithin o → summary sw text o ≡ S.Refused 21 place → place < nodeCount o
   unfolding summary nodeCount NumberWithin
