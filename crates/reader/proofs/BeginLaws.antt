@@ -18,7 +18,7 @@ use Rattle.lexer.specs.declared.item.TokenKind.the-variants as K
 use Rattle.lexer.specs.Token as L
 use Rattle.lexer.specs.Token.{Form}
 use Rattle.lexer.specs.Answer.{kindOf}
-use Rattle.reader.specs.declared.tree.Leaf.{Leaf}
+use Rattle.reader.specs.declared.tree.Words.{Words}
 use Rattle.reader.specs.declared.tree.Begin.{Begin}
 use Rattle.reader.specs.declared.tree.Begin.the-variants as B
 use Rattle.reader.specs.declared.tree.Kind.the-variants.{Object, Array, Tuple}
@@ -48,17 +48,17 @@ capital-from (b ∷ s) h = rw (le-leb 65 b h)
 -- ---- the words of a number
 
 pub integer-words : (n : ℕ) (z : ℤ) → n ≡ twosComplement z
-    → _≡_ {A = Leaf} (record { kind = 6; a = n % 4294967296; b = n / 4294967296; c = 0 }) (leafOf (T.integer z))
+    → _≡_ {A = Words} (record { kind = 6; a = n % 4294967296; b = n / 4294967296; c = 0 }) (leafOf (T.integer z))
 unfolding leafOf scalarNumber scalarWords
 integer-words n z e = rw e
 
 module _ (minus : Bool) (m : ℕ) (p : ℤ) (q : ℕ) (q-is : q ≡ plus1000 p) where
   pub minus-words : minus ≡ true
-      → _≡_ {A = Leaf} (record { kind = 7; a = m % 4294967296; b = m / 4294967296 + 2147483648; c = q }) (leafOf (T.decimal minus m p))
+      → _≡_ {A = Words} (record { kind = 7; a = m % 4294967296; b = m / 4294967296 + 2147483648; c = q }) (leafOf (T.decimal minus m p))
   unfolding leafOf scalarNumber scalarWords
   minus-words e = rw (e, q-is)
 
-  pub plain-words : minus ≡ false → _≡_ {A = Leaf} (record { kind = 7; a = m % 4294967296; b = m / 4294967296; c = q }) (leafOf (T.decimal minus m p))
+  pub plain-words : minus ≡ false → _≡_ {A = Words} (record { kind = 7; a = m % 4294967296; b = m / 4294967296; c = q }) (leafOf (T.decimal minus m p))
   unfolding leafOf scalarNumber scalarWords
   plain-words e = rw (e, q-is, add-zero (m / 4294967296))
 
@@ -228,12 +228,12 @@ module _ (sw : Switches) (s : List ℕ) (start stop : ℕ) where
     bytes-begun n e =
         begun (B.Scalar (record { kind = 5; a = start; b = stop; c = n })) (bytes-form (spanOf (tokenAt sw s start stop)) (formAt sw s start) n (t .kind ∙ e))
 
-    pub integer-begun : (z : ℤ) (l : Leaf) → k ≡ K.Integer z → l ≡ leafOf (T.integer z) → Begun sw s start stop (B.Scalar l)
+    pub integer-begun : (z : ℤ) (l : Words) → k ≡ K.Integer z → l ≡ leafOf (T.integer z) → Begun sw s start stop (B.Scalar l)
     unfolding beginBy
     integer-begun z l e q =
         begun (B.Scalar l) (ap B.Scalar q ∙ ap beginBy (sym (integer-form (spanOf (tokenAt sw s start stop)) (formAt sw s start) z (t .kind ∙ e))))
 
-    pub decimal-begun : (minus : Bool) (m : ℕ) (p : ℤ) (l : Leaf) → k ≡ K.Decimal minus m p → l ≡ leafOf (T.decimal minus m p)
+    pub decimal-begun : (minus : Bool) (m : ℕ) (p : ℤ) (l : Words) → k ≡ K.Decimal minus m p → l ≡ leafOf (T.decimal minus m p)
         → Begun sw s start stop (B.Scalar l)
     unfolding beginBy
     decimal-begun minus m p l e q =

@@ -2,8 +2,8 @@
 -- Assumes nothing.
 use mathlib.Core.Path.{_≡_, refl, ap, sym, subst, _∙_}
 use mathlib.Core.List.{List, [], _∷_, _++_}
-use mathlib.Core.Option.{Option, none}
-use mathlib.Core.Bool.{Bool, true, false, _&&_}
+use mathlib.Core.Option.{none}
+use mathlib.Core.Bool.{Bool, true, false, _&&_, true≢false}
 use Prim.Native.Nat.{ℕ, suc, _+_, _*_, _<_, _≤_}
 use native.Mathlib.Numerals.{add-one}
 use native.Mathlib.Omega.{arith}
@@ -15,17 +15,23 @@ use Rattle.text.specs.declared.switches.Switches.{Switches}
 use Rattle.lexer.specs.declared.item.TokenKind.{TokenKind}
 use Rattle.reader.specs.declared.tree.Kind.{Kind}
 use Rattle.reader.specs.declared.tree.Limits.{Limits}
-use Rattle.reader.specs.declared.tree.Spans.{Spans}
+use Rattle.reader.specs.declared.tree.Refusal.{Refusal}
+use Rattle.reader.specs.declared.tree.Rules.{Rules}
+use Rattle.reader.specs.declared.tree.Children.{Children}
+use Rattle.reader.specs.declared.tree.Due.{Due}
+use Rattle.reader.specs.declared.tree.Spot.{Spot}
+use Rattle.reader.specs.declared.tree.Span as CS
+use Rattle.reader.specs.declared.tree.Token as CT
 use Rattle.reader.specs.declared.items.Item.{Item}
 use Rattle.reader.specs.declared.items.Item.the-variants as I
-use Rattle.reader.specs.declared.items.After.{After}
-use Rattle.reader.specs.declared.items.After.the-variants as X
 use Rattle.reader.specs.declared.values.Answer.{Answer}
 use Rattle.reader.specs.declared.values.Answer.the-variants as A
-use Rattle.reader.specs.Tree.{Span, branch, Forest, nil, snoc, count, size, sizes, headOf, kindNumber, rows, rowsAll}
-use Rattle.reader.specs.Syntax.{Label, label, Frame, frame, Slot, after, more, Mode, value, inside, Config, config, refuseIf, container, isObject, headBy, ended, finished, noNode, counted, valueStep, Outcome, afterStep}
+use Rattle.reader.specs.Tree.{Span, branch, Forest, nil, snoc, count, size, sizes, headOf, rows, rowsAll}
+use Rattle.reader.specs.Syntax.{Label, label, Frame, frame, Slot, after, more, Mode, value, inside, Config, config, refuseIf, Begins, container, isObject, headBy, ended, finished, noNode, counted, valueStep, Outcome, afterStep}
 use Rattle.reader.specs.Internal.Values
-use Rattle.reader.specs.Internal.Values.{spanAt, labelOf, Sane, rowWords, runFrom, nodesAt, opened, openedHere, Chain, slotOf, innerAt, Known, Look, Valued, Ends, Refuses, ItemIs, NextIs, Took, Stops, Ran, RanIs}
+use Rattle.reader.specs.Internal.Tokens.{beginsAt}
+use Rattle.reader.specs.Internal.Values.{spanAt, labelOf, Sane, freshDue, rowOf, branchWords, runFrom, nodesAt, opened, openedHere, Chain, slotOf, innerAt, Known, Look, Valued, Ends, Refuses, ItemIs, Ready, Roomy, Took, Stops, RanIs, openedBy, ReadAs}
+use Rattle.reader.proofs.ItemRun.{Follows, Closes, FollowsNot}
 use Rattle.reader.proofs.SizeLaws.{sizes-snoc, count-snoc}
 use Rattle.reader.proofs.KeyWalk.{chain-more, getD-sets}
 use Rattle.reader.proofs.RowLaws.{glue, crown, size-pos, row-says}
@@ -48,32 +54,61 @@ Within sw limits s kind l ω o d n tin ts ks i m z tab = Body sw limits s kind l
 
 -- ---- answers by their cases
 
-module _ {sw : Switches} {limits : Limits} {s : List ℕ} {r : Answer} {ω : List Frame → Outcome} {l : Label} {name : Option Span} {o d parent n : ℕ} {tin tout : List ℕ} where
-  pub took : {j m : ℕ} → r ≡ A.Done j m → Ran sw limits s ω l name o d parent n tin tout r → Took sw limits s ω l name o d parent n tin tout j m
-  took e h = subst (RanIs sw limits s ω l name o d parent n tin tout) e (h .is)
+module _ {rules : Rules} {s : List ℕ} {due : Due} {t : CT.Token} {b : Begins} {tin tout : List ℕ} {r : Answer} where
+  pub took : {j m : ℕ} → r ≡ A.Done j m → ReadAs rules s due t b tin tout r
+      → Took (rules .sw) (rules .limits) s (openedBy rules s due t b) (labelOf (due .label)) (t .start) (due .spot .depth) (due .spot .parent) (due .spot .node) tin tout j m
+  took e h = subst (RanIs (rules .sw) (rules .limits) s (openedBy rules s due t b) (labelOf (due .label)) (t .start) (due .spot .depth) (due .spot .parent) (due .spot .node) tin tout) e (h .is)
 
-  pub stops : {c q : ℕ} → r ≡ A.Refused c q → Ran sw limits s ω l name o d parent n tin tout r → Stops ω d c q
-  stops e h = subst (RanIs sw limits s ω l name o d parent n tin tout) e (h .is)
+  pub stops : {f : Refusal} → r ≡ A.Refused f → ReadAs rules s due t b tin tout r → Stops (openedBy rules s due t b) (due .spot .depth) (f .number) (f .place)
+  stops e h = subst (RanIs (rules .sw) (rules .limits) s (openedBy rules s due t b) (labelOf (due .label)) (t .start) (due .spot .depth) (due .spot .parent) (due .spot .node) tin tout) e (h .is)
 
-module _ {sw : Switches} {s : List ℕ} {kind : Kind} {tab : List ℕ} {i x m z : ℕ} {r : Item} where
-  pub value-is : {k : TokenKind} {start stop a b : ℕ} → r ≡ I.Value k start stop a b → Values.ItemAt sw s kind tab i x m z r → Valued sw s kind tab i x m z k start stop a b
-  value-is e h = subst (ItemIs sw s kind tab i x m z) e (h .is)
+  -- the value that is due, or its token's beginning, by another name
+  pub due-as : {other : Due} → due ≡ other → ReadAs rules s due t b tin tout r → ReadAs rules s other t b tin tout r
+  due-as e h = subst (λ (d : Due). ReadAs rules s d t b tin tout r) e h
 
-  pub last-is : {j : ℕ} → r ≡ I.Last j → Values.ItemAt sw s kind tab i x m z r → Ends sw s kind tab i x m z j
-  last-is e h = subst (ItemIs sw s kind tab i x m z) e (h .is)
+  pub begins-as : {other : Begins} → other ≡ b → ReadAs rules s due t b tin tout r → ReadAs rules s due t other tin tout r
+  begins-as e h = subst (λ (x : Begins). ReadAs rules s due t x tin tout r) (sym e) h
 
-  pub wrong-is : {c q : ℕ} → r ≡ I.Wrong c q → Values.ItemAt sw s kind tab i x m z r → Refuses sw s kind tab i x m z c q
-  wrong-is e h = subst (ItemIs sw s kind tab i x m z) e (h .is)
+module _ {sw : Switches} {s : List ℕ} {kind : Kind} {tab : List ℕ} {c : Children} {i : ℕ} {r : Item} where
+  pub value-is : {x : ℕ} {t : CT.Token} {key : CS.Span} → c .first ≡ x → r ≡ I.Value t key → Values.ItemAt sw s kind tab c i r
+      → Valued sw s kind tab i x (c .next) (c .count) (t .kind) (t .start) (t .stop) (key .start) (key .stop)
+  value-is {x} {t} {key} f e h =
+      subst (λ (y : ℕ). Valued sw s kind tab i y (c .next) (c .count) (t .kind) (t .start) (t .stop) (key .start) (key .stop)) f
+      (subst (ItemIs sw s kind tab i (c .first) (c .next) (c .count)) e (h .is))
 
-module _ {sw : Switches} {s : List ℕ} {kind : Kind} {i : ℕ} {r : After} where
-  pub more-is : {j : ℕ} → r ≡ X.More j → Values.NextAt sw s kind i r → Values.Follows sw s kind i j
-  more-is e h = subst (NextIs sw s kind i) e (h .is)
+  pub last-is : {x j : ℕ} → c .first ≡ x → r ≡ I.Last j → Values.ItemAt sw s kind tab c i r → Ends sw s kind tab i x (c .next) (c .count) j
+  last-is {x} {j} f e h =
+      subst (λ (y : ℕ). Ends sw s kind tab i y (c .next) (c .count) j) f (subst (ItemIs sw s kind tab i (c .first) (c .next) (c .count)) e (h .is))
 
-  pub over-is : {j : ℕ} → r ≡ X.Over j → Values.NextAt sw s kind i r → Values.Closes sw s kind i j
-  over-is e h = subst (NextIs sw s kind i) e (h .is)
+  pub wrong-is : {x : ℕ} {f : Refusal} → c .first ≡ x → r ≡ I.Wrong f → Values.ItemAt sw s kind tab c i r → Refuses sw s kind tab i x (c .next) (c .count) (f .number) (f .place)
+  wrong-is {x} {f} q e h =
+      subst (λ (y : ℕ). Refuses sw s kind tab i y (c .next) (c .count) (f .number) (f .place)) q (subst (ItemIs sw s kind tab i (c .first) (c .next) (c .count)) e (h .is))
 
-  pub off-is : {c q : ℕ} → r ≡ X.Off c q → Values.NextAt sw s kind i r → Values.FollowsNot sw s kind i c q
-  off-is e h = subst (NextIs sw s kind i) e (h .is)
+-- ---- a value that is due afresh
+
+module _ {rules : Rules} {s : List ℕ} {any : Bool} {key : CS.Span} {spot : Spot} {due : Due} {t : CT.Token} {tin tout : List ℕ} {r : Answer} where
+  pub fresh-took : {j m : ℕ} → due ≡ freshDue any (t .start) key spot → r ≡ A.Done j m → ReadAs rules s due t (beginsAt (rules .sw) s t) tin tout r
+      → Took (rules .sw) (rules .limits) s (openedHere (rules .sw) (rules .limits) s (t .start) (t .stop) any (spanAt (key .start) (key .stop)) (spot .node)) (label (t .start) (spanAt (key .start) (key .stop)) none) (t .start) (spot .depth) (spot .parent) (spot .node) tin tout j m
+  unfolding labelOf spanAt
+  fresh-took e q h = took q (due-as {other = freshDue any (t .start) key spot} e h)
+
+  pub fresh-stops : {f : Refusal} → due ≡ freshDue any (t .start) key spot → r ≡ A.Refused f → ReadAs rules s due t (beginsAt (rules .sw) s t) tin tout r
+      → Stops (openedHere (rules .sw) (rules .limits) s (t .start) (t .stop) any (spanAt (key .start) (key .stop)) (spot .node)) (spot .depth) (f .number) (f .place)
+  unfolding labelOf spanAt
+  fresh-stops e q h = stops q (due-as {other = freshDue any (t .start) key spot} e h)
+
+-- its label is sane, and it has room
+pub fresh-ready : {limits : Limits} {tab : List ℕ} {any : Bool} {start : ℕ} {key : CS.Span} {spot : Spot} {due : Due} → due ≡ freshDue any start key spot
+    → Roomy limits tab → spot .node ≤ limits .nodes → start ≤ 65536 → (key .stop ≡ 0 → key .start ≡ 0) → key .start ≤ 65536 → key .stop ≤ 65536 → Ready limits tab due
+fresh-ready {limits} {tab} e w b p ok a c =
+    subst (Ready limits tab) (sym e)
+    (record {
+      table = w;
+      counted = λ q. absurd (true≢false q);
+      below = b;
+      label = record { keys = ok; names = λ _. refl; start-low = p; key-low = a; key-stop-low = c; name-low = omega arith; name-stop-low = omega arith };
+      unnamed = λ _. refl;
+    })
 
 -- ---- the loop
 
@@ -84,13 +119,15 @@ module _ {sw : Switches} {limits : Limits} {s : List ℕ} {kind : Kind} {l : Lab
   known : {ts : Forest} {ks : List (List ℕ)} {τ : List Frame → Config} {i m z : ℕ} {tab : List ℕ} → Body sw limits s kind l ω o d n tin ts ks τ i m z tab → Known sw s kind tab (n + 1) m ks
   known B = record { chain = B .chained }
 
-  pub body-look : {ts : Forest} {ks : List (List ℕ)} {i m z : ℕ} {tab : List ℕ} → length s ≤ 65536 → Within sw limits s kind l ω o d n tin ts ks i m z tab → Look sw s kind tab i (n + 1) m
-  body-look {ts} {ks} h B = record { inside = B .inside; short = h; chained = λ e. record { keys = ks; chain = B .chained e } }
+  pub body-look : {ts : Forest} {ks : List (List ℕ)} {i : ℕ} {tab : List ℕ} {c : Children} → c .first ≡ n + 1 → length s ≤ 65536
+      → Within sw limits s kind l ω o d n tin ts ks i (c .next) (c .count) tab → Look sw s kind tab c i
+  body-look {ts} {ks} {i} {tab} {c} e h B =
+      record { inside = B .inside; short = h; chained = λ q. record { keys = ks; chain = subst (λ (x : ℕ). Chain sw s tab x (c .next) ks) (sym e) (B .chained q) } }
 
   -- a child was read
   pub body-value : {ts : Forest} {ks : List (List ℕ)} {i m z : ℕ} {tab : List ℕ} {k : TokenKind} {start stop a b : ℕ} {out : List ℕ} {j e : ℕ}
       → Within sw limits s kind l ω o d n tin ts ks i m z tab → (I : Valued sw s kind tab i (n + 1) m z k start stop a b)
-      → (T : Took sw limits s (openedHere sw limits s start stop true (spanAt a b) m) (label start (spanAt a b) none) none start (d + 1) n m tab out j e) → length out ≡ length tab
+      → (T : Took sw limits s (openedHere sw limits s start stop true (spanAt a b) m) (label start (spanAt a b) none) start (d + 1) n m tab out j e) → length out ≡ length tab
       → Body sw limits s kind l ω o d n tin (snoc ts (T .tree)) (I .keys ks) (λ stack. config (frame kind l (snoc ts (T .tree)) (I .keys ks) ∷ stack) (inside after) e) j e (z + 1) out
   unfolding ended finished
   body-value {ts} {ks} {i} {m} {z} {tab} {k} {start} {stop} {a} {b} {out} {j} {e} B I T L =
@@ -126,7 +163,7 @@ module _ {sw : Switches} {limits : Limits} {s : List ℕ} {kind : Kind} {l : Lab
       }
 
   pub body-more : {ts : Forest} {ks : List (List ℕ)} {i m z : ℕ} {tab : List ℕ} {j : ℕ}
-      → Body sw limits s kind l ω o d n tin ts ks (λ stack. config (frame kind l ts ks ∷ stack) (inside after) m) i m z tab → Values.Follows sw s kind i j → 0 < z
+      → Body sw limits s kind l ω o d n tin ts ks (λ stack. config (frame kind l ts ks ∷ stack) (inside after) m) i m z tab → Follows sw s kind i j → 0 < z
       → Within sw limits s kind l ω o d n tin ts ks j m z tab
   body-more {ts} {ks} {i} {m} {z} {tab} {j} B A u =
       record {
@@ -148,7 +185,7 @@ module _ {sw : Switches} {limits : Limits} {s : List ℕ} {kind : Kind} {l : Lab
 
   -- the container's end
   pub body-over : {ts : Forest} {ks : List (List ℕ)} {i m z : ℕ} {tab : List ℕ} {j : ℕ}
-      → Body sw limits s kind l ω o d n tin ts ks (λ stack. config (frame kind l ts ks ∷ stack) (inside after) m) i m z tab → Values.Closes sw s kind i j
+      → Body sw limits s kind l ω o d n tin ts ks (λ stack. config (frame kind l ts ks ∷ stack) (inside after) m) i m z tab → Closes sw s kind i j
       → Body sw limits s kind l ω o d n tin ts ks (λ stack. ended stack m (l .name) (branch (headBy l j) kind ts)) j m z tab
   body-over {ts} {ks} {i} {m} {z} {tab} {j} B A =
       record {
@@ -199,28 +236,36 @@ module _ {sw : Switches} {limits : Limits} {s : List ℕ} {kind : Kind} {l : Lab
       }
 
   pub body-off : {ts : Forest} {ks : List (List ℕ)} {i m z : ℕ} {tab : List ℕ} {c q : ℕ}
-      → Body sw limits s kind l ω o d n tin ts ks (λ stack. config (frame kind l ts ks ∷ stack) (inside after) m) i m z tab → Values.FollowsNot sw s kind i c q → Stops ω d c q
+      → Body sw limits s kind l ω o d n tin ts ks (λ stack. config (frame kind l ts ks ∷ stack) (inside after) m) i m z tab → FollowsNot sw s kind i c q → Stops ω d c q
   body-off {ts} {ks} {i} {m} B A = record { ran = λ stack h. B .ran stack h ∙ A .ran limits l ts ks stack m }
 
 -- the container's row is written
-pub body-took : {sw : Switches} {limits : Limits} {s : List ℕ} {kind : Kind} {p : Spans} {ω : List Frame → Outcome} {o d n : ℕ} {tin : List ℕ} {ts : Forest} {ks : List (List ℕ)} {j m z : ℕ} {tab out : List ℕ} {word parent : ℕ}
-    → Sane p → Body sw limits s kind (labelOf p) ω o d n tin ts ks (λ stack. ended stack m (labelOf p .name) (branch (headBy (labelOf p) j) kind ts)) j m z tab
-    → word ≡ kindNumber kind → out ≡ sets tab (12 * n) (rowWords word parent p j m z 0 0)
-    → Took sw limits s ω (labelOf p) (labelOf p .name) o d parent n tin out j m
+pub body-took : {rules : Rules} {s : List ℕ} {due : Due} {t : CT.Token} {kind : Kind} {tin : List ℕ} {ts : Forest} {ks : List (List ℕ)} {j m z : ℕ} {tab out : List ℕ} {r : Answer}
+    → Sane (due .label)
+    → Body (rules .sw) (rules .limits) s kind (labelOf (due .label)) (openedBy rules s due t (container kind)) (t .start) (due .spot .depth) (due .spot .node) tin ts ks (λ stack. ended stack m (labelOf (due .label) .name) (branch (headBy (labelOf (due .label)) j) kind ts)) j m z tab
+    → r ≡ A.Done j m → out ≡ sets tab (12 * due .spot .node) (rowOf due (branchWords kind z) j m) → ReadAs rules s due t (container kind) tin out r
 unfolding size headOf headBy
-body-took {sw} {limits} {s} {kind} {p} {ω} {o} {d} {n} {tin} {ts} {ks} {j} {m} {z} {tab} {out} {word} {parent} ok B e v =
+body-took {rules} {s} {due} {t} {kind} {tin} {ts} {ks} {j} {m} {z} {tab} {out} {r} ok B e v =
     record {
-      tree = branch (headBy (labelOf p) j) kind ts;
-      keyed = refl;
-      begun = refl;
-      stopped = refl;
-      grew = omega (arith, B .grew);
-      below = B .below;
-      ahead = B .ahead;
-      inside = B .inside;
-      wrote = crown tin tab out p ok kind word parent n m z j ts e (B .grew) (B .counted) (B .wrote) v;
-      ran = B .ran;
+      is =
+          subst (RanIs (rules .sw) (rules .limits) s (openedBy rules s due t (container kind)) (labelOf (due .label)) (t .start) (due .spot .depth) (due .spot .parent) (due .spot .node) tin out)
+          (sym e) done;
     }
+  where
+    done : Took (rules .sw) (rules .limits) s (openedBy rules s due t (container kind)) (labelOf (due .label)) (t .start) (due .spot .depth) (due .spot .parent) (due .spot .node) tin out j m
+    done =
+        record {
+          tree = branch (headBy (labelOf (due .label)) j) kind ts;
+          keyed = refl;
+          begun = refl;
+          stopped = refl;
+          grew = omega (arith, B .grew);
+          below = B .below;
+          ahead = B .ahead;
+          inside = B .inside;
+          wrote = crown tin tab out (due .label) ok kind (due .spot .parent) (due .spot .node) m z j ts (B .grew) (B .counted) (B .wrote) v;
+          ran = B .ran;
+        }
 
 -- ---- the opening
 
@@ -238,8 +283,8 @@ pub node-left : (nodes : ℕ) (fresh : Bool) (n : ℕ) → (fresh && leb nodes n
 node-left nodes true n e h = leb-false nodes n e
 node-left nodes false n e h = h refl
 
-module _ (sw : Switches) (limits : Limits) (s : List ℕ) (start stop : ℕ) (fresh : Bool) (l : Label) (n d : ℕ) (kind : Kind) where
-  pub open-deep : limits .depth ≤ d → Stops (opened sw limits s start stop fresh true l n (container kind)) d 9 start
+module _ (sw : Switches) (limits : Limits) (s : List ℕ) (start stop : ℕ) (fresh any : Bool) (l : Label) (n d : ℕ) (kind : Kind) where
+  pub open-deep : limits .depth ≤ d → Stops (opened sw limits s start stop fresh any l n (container kind)) d 9 start
   unfolding opened valueStep refuseIf afterStep
   open-deep h =
       record {
@@ -249,18 +294,18 @@ module _ (sw : Switches) (limits : Limits) (s : List ℕ) (start stop : ℕ) (fr
             rw (le-leb (limits .depth) (length stack) g);
       }
 
-  pub open-full : d < limits .depth → (fresh && leb (limits .nodes) n) ≡ true → Stops (opened sw limits s start stop fresh true l n (container kind)) d 10 start
+  pub open-full : d < limits .depth → (fresh && leb (limits .nodes) n) ≡ true → Stops (opened sw limits s start stop fresh any l n (container kind)) d 10 start
   unfolding opened valueStep refuseIf afterStep
   open-full h f =
       record {
         ran =
             λ stack e.
             let g : length stack < limits .depth = omega arith in
-            rw (lt-leb (limits .depth) (length stack) g, no-node limits stack (value true none) fresh n, f);
+            rw (lt-leb (limits .depth) (length stack) g, no-node limits stack (value any none) fresh n, f);
       }
 
   pub body-start : (tin : List ℕ) → d < limits .depth → (fresh && leb (limits .nodes) n) ≡ false → n < limits .nodes → start < stop → stop ≤ length s → 12 * limits .nodes ≤ length tin
-      → Within sw limits s kind l (opened sw limits s start stop fresh true l n (container kind)) start d n tin nil [] stop (n + 1) 0 tin
+      → Within sw limits s kind l (opened sw limits s start stop fresh any l n (container kind)) start d n tin nil [] stop (n + 1) 0 tin
   unfolding opened valueStep refuseIf afterStep count sizes rowsAll
   body-start tin h f r o i w =
       record {
@@ -277,5 +322,5 @@ module _ (sw : Switches) (limits : Limits) (s : List ℕ) (start stop : ℕ) (fr
         ran =
             λ stack e.
             let g : length stack < limits .depth = omega arith in
-            rw (lt-leb (limits .depth) (length stack) g, no-node limits stack (value true none) fresh n, f, count-one limits stack (value true none) fresh n);
+            rw (lt-leb (limits .depth) (length stack) g, no-node limits stack (value any none) fresh n, f, count-one limits stack (value any none) fresh n);
       }

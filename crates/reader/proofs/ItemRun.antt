@@ -3,7 +3,7 @@
 use mathlib.Core.Path.{_≡_, refl, sym, ap, _∙_, subst}
 use Prim.Native.Nat.{ℕ, suc, _-_, _≤_, _<_}
 use native.Mathlib.Omega.{arith}
-use mathlib.Core.Bool.{Bool, true, false, _&&_, false≢true}
+use mathlib.Core.Bool.{Bool, true, false, cond, _&&_, false≢true}
 use mathlib.Core.Option.{Option, none, some}
 use mathlib.Core.List.{List, [], _∷_, _++_}
 use lib.Dec.{eqb}
@@ -12,23 +12,30 @@ use borrow.Author.Tests.{ne-eqb}
 use Rattle.text.specs.declared.switches.Switches.{Switches}
 use Rattle.lexer.specs.declared.item.TokenKind.{TokenKind}
 use Rattle.lexer.specs.declared.item.TokenKind.the-variants as K
-use Rattle.lexer.specs.declared.item.Next.the-variants as N
 use Rattle.lexer.specs.Token as L
-use Rattle.lexer.specs.Token.{Form, tokensFrom, tokenContent, keyContent}
-use Rattle.lexer.specs.Answer.{kindOf, firstOf}
+use Rattle.lexer.specs.Token.{Form, tokenContent, keyContent}
+use Rattle.lexer.specs.Answer.{kindOf}
 use Rattle.lexer.proofs.AloneLaws.{token-alone}
 use Rattle.reader.specs.declared.tree.Kind.{Kind}
 use Rattle.reader.specs.declared.tree.Kind.the-variants.{Object}
 use Rattle.reader.specs.declared.tree.Limits.{Limits}
+use Rattle.reader.specs.declared.tree.Refusal.{Refusal}
+use Rattle.reader.specs.declared.tree.Children.{Children}
+use Rattle.reader.specs.declared.tree.Span as CS
+use Rattle.reader.specs.declared.items.Ahead.{Ahead}
+use Rattle.reader.specs.declared.items.Ahead.the-variants as H
 use Rattle.reader.specs.declared.items.Only.{Only}
+use Rattle.reader.specs.declared.items.After.{After}
+use Rattle.reader.specs.declared.items.After.the-variants as X
 use Rattle.reader.specs.declared.items.Item.{Item}
 use Rattle.reader.specs.declared.items.Item.the-variants as I
 use Rattle.reader.specs.Tree.{Span, branch, Forest}
-use Rattle.reader.specs.Syntax.{Label, Frame, frame, lone, after, more, value, inside, colon, config, go, spanOf, isMark, isObject, closer, keyOf, headBy, ended, refuseIf, holds, keyStep, emptyByComma, childStep, modeStep, step, atEnd}
+use Rattle.reader.specs.Syntax.{Label, Frame, frame, lone, after, more, value, inside, colon, config, go, spanOf, isMark, isObject, closer, keyOf, headBy, ended, refuseIf, holds, keyStep, emptyByComma, childStep, modeStep, step, refused, atEnd}
 use Rattle.reader.specs.Internal.Tokens.{formAt, tokenAt, TokenAt}
 use Rattle.reader.specs.Internal.Values
-use Rattle.reader.specs.Internal.Values.{spanAt, runFrom, openedHere, Peeked, markIs, isKey, closerByte, Marked, Wants, NotMarked, OnlyIs, OnlyOne, KeyHere, FoundKey, slotOf, innerAt, Known, Look, Valued, Ends, Refuses, ItemIs, FieldAt, AfterKeyIs}
-use Rattle.reader.proofs.StepRun.{not-mark, peek-go, peek-refuse, mark-go, end-run, fault-run, is-mark, closer-mark, close-step, comma-step, after-step, lone-step, lone-wants, child-step, value-opens, child-opens, item-closes}
+use Rattle.reader.specs.Internal.Ahead.{markIs, isKey, closerByte, aheadAt, onlyAt, aheadAfter, keyedItem, followsBy, followsAt}
+use Rattle.reader.specs.Internal.Values.{spanAt, runFrom, openedHere, KeyHere, FoundKey, slotOf, innerAt, Known, Look, Valued, Ends, Refuses, ItemIs, ElementAt}
+use Rattle.reader.proofs.StepRun.{Peeked, Marked, Wants, NotMarked, not-mark, peek-go, peek-refuse, mark-go, is-mark, ahead-token, ahead-refuses, only-at, only-not, past-token, past-refuses, closer-mark, close-step, comma-step, after-step, lone-step, lone-wants, child-step, value-opens, child-opens, item-closes}
 
 and-first : (a b : Bool) → (a && b) ≡ true → a ≡ true
 and-first true b e = refl
@@ -42,17 +49,14 @@ and-false : (a : Bool) → (a && false) ≡ false
 and-false true = refl
 and-false false = refl
 
--- ---- one mark
+-- ---- one mark, as it was told
 
 module _ {sw : Switches} {s : List ℕ} {from want : ℕ} {r : Only} where
-  pub only-at : {stop : ℕ} → r ≡ Only.At stop → OnlyOne sw s from want r → Marked sw s from want stop
-  only-at e h = subst (OnlyIs sw s from want) e (h .is)
+  pub told-at : {stop : ℕ} → from ≤ length s → r ≡ Only.At stop → r ≡ onlyAt sw s from want → Marked sw s from want stop
+  told-at {stop} h e q = only-at sw s from want h stop (sym q ∙ e)
 
-  pub only-not : {number place : ℕ} → r ≡ Only.Not number place → OnlyOne sw s from want r → NotMarked sw s from want number place
-  only-not e h = subst (OnlyIs sw s from want) e (h .is)
-
-pub only-as : {sw : Switches} {s : List ℕ} {from want other : ℕ} {r : Only} → want ≡ other → OnlyOne sw s from want r → OnlyOne sw s from other r
-only-as {sw} {s} {from} {want} {other} {r} e h = subst (λ (w : ℕ). OnlyOne sw s from w r) e h
+  pub told-not : {f : Refusal} → from ≤ length s → r ≡ Only.Not f → r ≡ onlyAt sw s from want → NotMarked sw s from want (f .number) (f .place)
+  told-not {f} h e q = only-not sw s from want h f (sym q ∙ e)
 
 -- ---- arrays and tuples
 
@@ -102,10 +106,10 @@ module _ (sw : Switches) (s : List ℕ) (kind : Kind) (tab : List ℕ) (i x m z 
             ∙ q .ran limits (config (frame kind l ts ks ∷ stack) (inside lone) m) (lone-wants sw limits kind l ts ks stack m);
       }
 
-  pub item-value : length s ≤ 65536 → isObject kind ≡ false → markIs k (closerByte kind) ≡ false → (eqb z 0 && (markIs k 44 && emptyByComma sw kind)) ≡ false
+  pub item-value : isObject kind ≡ false → markIs k (closerByte kind) ≡ false → (eqb z 0 && (markIs k 44 && emptyByComma sw kind)) ≡ false
       → Valued sw s kind tab i x m z k start stop 0 0
   unfolding spanAt
-  item-value short o e f =
+  item-value o e f =
       record {
         token = p .token;
         ahead = p .ahead;
@@ -121,21 +125,43 @@ module _ (sw : Switches) (s : List ℕ) (kind : Kind) (tab : List ℕ) (i x m z 
             (ap (λ (b : Bool). eqb z 0 && (b && emptyByComma sw kind)) (is-mark sw s k start stop (p .token) "," (markIs k 44) refl) ∙ f);
       }
 
--- ---- the end or a fault where a child is due
+-- ---- no token where a child is due
 
-module _ (sw : Switches) (s : List ℕ) (kind : Kind) (tab : List ℕ) (i x m z : ℕ) where
-  pub item-end : (place : ℕ) → firstOf (tokensFrom sw s i) ≡ N.End place → Refuses sw s kind tab i x m z 7 place
-  unfolding atEnd
-  item-end place e = record { ran = λ limits l ts ks stack K. end-run sw limits s i (innerAt kind l ts ks stack m z) place e }
-
-  pub item-fault : (number place : ℕ) → firstOf (tokensFrom sw s i) ≡ N.Fault number place → Refuses sw s kind tab i x m z number place
-  item-fault number place e = record { ran = λ limits l ts ks stack K. fault-run sw limits s i (innerAt kind l ts ks stack m z) number place e }
+pub item-none : (sw : Switches) (s : List ℕ) (kind : Kind) (tab : List ℕ) (i x m z : ℕ) (f : Refusal) → aheadAt sw s i ≡ H.Refused f
+    → Refuses sw s kind tab i x m z (f .number) (f .place)
+unfolding atEnd
+item-none sw s kind tab i x m z f e = record { ran = λ limits l ts ks stack K. ahead-refuses sw s i f e limits (innerAt kind l ts ks stack m z) (λ place. refl) }
 
 -- ---- after a child
 
+-- a comma
+pub record Follows (sw : Switches) (s : List ℕ) (kind : Kind) (i j : ℕ) : Type 0 where
+  pub ahead : i < j
+  pub within : j ≤ length s
+  pub ran : (limits : Limits) (l : Label) (ts : Forest) (ks : List (List ℕ)) (stack : List Frame) (m : ℕ)
+      → runFrom sw limits s i (config (frame kind l ts ks ∷ stack) (inside after) m) ≡ runFrom sw limits s j (config (frame kind l ts ks ∷ stack) (inside more) m)
+
+-- the end of the container
+pub record Closes (sw : Switches) (s : List ℕ) (kind : Kind) (i j : ℕ) : Type 0 where
+  pub ahead : i < j
+  pub within : j ≤ length s
+  pub ran : (limits : Limits) (l : Label) (ts : Forest) (ks : List (List ℕ)) (stack : List Frame) (m : ℕ)
+      → runFrom sw limits s i (config (frame kind l ts ks ∷ stack) (inside after) m) ≡ runFrom sw limits s j (ended stack m (l .name) (branch (headBy l j) kind ts))
+
+-- a refusal
+pub record FollowsNot (sw : Switches) (s : List ℕ) (kind : Kind) (i number place : ℕ) : Type 0 where
+  pub ran : (limits : Limits) (l : Label) (ts : Forest) (ks : List (List ℕ)) (stack : List Frame) (m : ℕ)
+      → runFrom sw limits s i (config (frame kind l ts ks ∷ stack) (inside after) m) ≡ refused number place
+
+-- one of them, by the code's answer
+abbrev pub NextIs : Switches → List ℕ → Kind → (i : ℕ) → After → Type 0
+NextIs sw s kind i (X.More j) = Follows sw s kind i j
+NextIs sw s kind i (X.Over j) = Closes sw s kind i j
+NextIs sw s kind i (X.Off f) = FollowsNot sw s kind i (f .number) (f .place)
+
 module _ (sw : Switches) (s : List ℕ) (kind : Kind) (i : ℕ) where
   module _ (k : TokenKind) (start stop : ℕ) (p : Peeked sw s i k start stop) where
-    pub after-closes : markIs k (closerByte kind) ≡ true → Values.Closes sw s kind i stop
+    after-closes : markIs k (closerByte kind) ≡ true → Closes sw s kind i stop
     after-closes e =
         let t = p .token in
         let h = p .ahead in
@@ -145,7 +171,7 @@ module _ (sw : Switches) (s : List ℕ) (kind : Kind) (i : ℕ) where
           ran = λ limits l ts ks stack m. item-closes sw limits s i k start stop p kind l ts ks stack m after (is-mark sw s k start stop t (closer kind) true e);
         }
 
-    pub after-comma : markIs k (closerByte kind) ≡ false → markIs k 44 ≡ true → Values.Follows sw s kind i stop
+    after-comma : markIs k (closerByte kind) ≡ false → markIs k 44 ≡ true → Follows sw s kind i stop
     after-comma e f =
         let t = p .token in
         let h = p .ahead in
@@ -158,7 +184,7 @@ module _ (sw : Switches) (s : List ℕ) (kind : Kind) (i : ℕ) where
               (comma-step sw limits kind l ts ks stack m (tokenAt sw s start stop) (is-mark sw s k start stop t (closer kind) false e) (is-mark sw s k start stop t "," true f));
         }
 
-    pub after-other : markIs k (closerByte kind) ≡ false → markIs k 44 ≡ false → Values.FollowsNot sw s kind i 7 start
+    after-other : markIs k (closerByte kind) ≡ false → markIs k 44 ≡ false → FollowsNot sw s kind i 7 start
     after-other e f =
         record {
           ran =
@@ -167,19 +193,34 @@ module _ (sw : Switches) (s : List ℕ) (kind : Kind) (i : ℕ) where
               (after-step sw limits kind l ts ks stack m (tokenAt sw s start stop) (is-mark sw s k start stop (p .token) (closer kind) false e) (is-mark sw s k start stop (p .token) "," false f));
         }
 
-  pub after-end : (place : ℕ) → firstOf (tokensFrom sw s i) ≡ N.End place → Values.FollowsNot sw s kind i 7 place
+  after-none : (f : Refusal) → aheadAt sw s i ≡ H.Refused f → FollowsNot sw s kind i (f .number) (f .place)
   unfolding atEnd
-  after-end place e = record { ran = λ limits l ts ks stack m. end-run sw limits s i (config (frame kind l ts ks ∷ stack) (inside after) m) place e }
+  after-none f e = record { ran = λ limits l ts ks stack m. ahead-refuses sw s i f e limits (config (frame kind l ts ks ∷ stack) (inside after) m) (λ place. refl) }
 
-  pub after-fault : (number place : ℕ) → firstOf (tokensFrom sw s i) ≡ N.Fault number place → Values.FollowsNot sw s kind i number place
-  after-fault number place e = record { ran = λ limits l ts ks stack m. fault-run sw limits s i (config (frame kind l ts ks ∷ stack) (inside after) m) number place e }
+  next-by : i ≤ length s → (a : Ahead) → aheadAt sw s i ≡ a → NextIs sw s kind i (followsBy kind a)
+  unfolding followsBy
+  next-by h (H.Token t) q = by (markIs (t .kind) (closerByte kind)) (markIs (t .kind) 44) refl refl
+    where
+      by : (b c : Bool) → markIs (t .kind) (closerByte kind) ≡ b → markIs (t .kind) 44 ≡ c
+          → NextIs sw s kind i (cond b (X.Over (t .stop)) (cond c (X.More (t .stop)) (X.Off (record { number = 7; place = t .start }))))
+      by true c e f = after-closes (t .kind) (t .start) (t .stop) (ahead-token sw s i t h q) e
+      by false true e f = after-comma (t .kind) (t .start) (t .stop) (ahead-token sw s i t h q) e f
+      by false false e f = after-other (t .kind) (t .start) (t .stop) (ahead-token sw s i t h q) e f
+  next-by h (H.Refused f) q = after-none f q
+
+  -- what `after_item` has answered
+  pub next-is : {r : After} → i ≤ length s → r ≡ followsAt sw s kind i → (q : After) → r ≡ q → NextIs sw s kind i q
+  next-is {r} h e q p = subst (NextIs sw s kind i) (sym e ∙ p) (next-by h (aheadAt sw s i) refl)
 
 -- the reader of an item by the kind of its container
-pub look-as : {sw : Switches} {s : List ℕ} {kind : Kind} {tab : List ℕ} {from x m : ℕ} (other : Kind) → kind ≡ other → Look sw s kind tab from x m → Look sw s other tab from x m
-look-as {sw} {s} {kind} {tab} {from} {x} {m} other e h = subst (λ (k : Kind). Look sw s k tab from x m) e h
+pub look-as : {sw : Switches} {s : List ℕ} {kind : Kind} {tab : List ℕ} {c : Children} {from : ℕ} (other : Kind) → kind ≡ other → Look sw s kind tab c from → Look sw s other tab c from
+look-as {sw} {s} {kind} {tab} {c} {from} other e h = subst (λ (k : Kind). Look sw s k tab c from) e h
 
-pub item-as : {sw : Switches} {s : List ℕ} {kind : Kind} {tab : List ℕ} {from x m z : ℕ} {r : Item} → kind ≡ Object → FieldAt sw s tab from x m r → Values.ItemAt sw s kind tab from x m z r
-item-as {sw} {s} {kind} {tab} {from} {x} {m} {z} {r} e h = subst (λ (k : Kind). Values.ItemAt sw s k tab from x m z r) (sym e) (record { is = h .is z })
+pub item-as : {sw : Switches} {s : List ℕ} {kind : Kind} {tab : List ℕ} {c : Children} {from : ℕ} {r : Item} → kind ≡ Object → Values.ItemAt sw s Object tab c from r → Values.ItemAt sw s kind tab c from r
+item-as {sw} {s} {kind} {tab} {c} {from} {r} e h = subst (λ (k : Kind). Values.ItemAt sw s k tab c from r) (sym e) h
+
+pub element-as : {sw : Switches} {s : List ℕ} {kind : Kind} {tab : List ℕ} {c : Children} {from : ℕ} {r : Item} → ElementAt sw s kind (c .count) from r → Values.ItemAt sw s kind tab c from r
+element-as {sw} {s} {kind} {tab} {c} {from} {r} h = record { is = h .is tab (c .first) (c .next) }
 
 pub no-object : (kind other : Kind) → kind ≡ other → isObject other ≡ false → isObject kind ≡ false
 no-object kind other e f = ap isObject e ∙ f
@@ -191,45 +232,53 @@ pub span-some : (a e : ℕ) → a < e → spanAt a e ≡ some (record { start = 
 unfolding spanAt
 span-some a e h = let n : e ≡ 0 → ⊥ = λ q. omega arith in rw (ne-eqb e 0 n)
 
--- after a key
-module _ (sw : Switches) (s : List ℕ) (start stop : ℕ) where
+-- after the key from `start` to `stop`: its colon and its value's first token
+abbrev pub AfterKeyIs : Switches → List ℕ → (start stop : ℕ) → Item → Type 0
+AfterKeyIs sw s start stop (I.Value t key) =
+    (key .start ≡ start) × (key .stop ≡ stop) × (stop ≤ t .start) × TokenAt sw s (t .kind) (t .start) (t .stop)
+    × ((limits : Limits) (stack : List Frame) (m : ℕ)
+    → runFrom sw limits s stop (config stack (colon (record { start = start; stop = stop })) m) ≡ openedHere sw limits s (t .start) (t .stop) true (some (record { start = start; stop = stop })) m stack)
+AfterKeyIs sw s start stop (I.Last j) = ⊥
+AfterKeyIs sw s start stop (I.Wrong f) =
+    (limits : Limits) (stack : List Frame) (m : ℕ) → runFrom sw limits s stop (config stack (colon (record { start = start; stop = stop })) m) ≡ refused (f .number) (f .place)
+
+module _ (sw : Switches) (s : List ℕ) (key : CS.Span) where
   unfoldable colon-at : Span
-  colon-at = record { start = start; stop = stop }
+  colon-at = record { start = key .start; stop = key .stop }
 
   colon-wants : (limits : Limits) (stack : List Frame) (m : ℕ) → Wants sw limits 58 (config stack (colon colon-at) m)
   unfolding step modeStep atEnd
   colon-wants limits stack m = record { others = λ t n. rw (not-mark (t .form) ":" n); ends = λ place. refl }
 
-  colon-run : (e : ℕ) → Marked sw s stop 58 e → (limits : Limits) (stack : List Frame) (m : ℕ)
-      → runFrom sw limits s stop (config stack (colon colon-at) m) ≡ runFrom sw limits s e (config stack (value true (some colon-at)) m)
+  colon-goes : (limits : Limits) (stack : List Frame) (m start stop : ℕ)
+      → step sw limits (config stack (colon colon-at) m) (record { form = L.mark 58; start = start; stop = stop }) ≡ go (config stack (value true (some colon-at)) m)
   unfolding step modeStep isMark
-  colon-run e q limits stack m = mark-go sw limits s stop (config stack (colon colon-at) m) 58 e (config stack (value true (some colon-at)) m) q refl
+  colon-goes limits stack m start stop = refl
 
-  pub key-colon-not : (number place : ℕ) → NotMarked sw s stop 58 number place → AfterKeyIs sw s start stop (I.Wrong number place)
-  unfolding colon-at
-  key-colon-not number place q = λ limits stack m. q .ran limits (config stack (colon colon-at) m) (colon-wants limits stack m)
+  after-by : key .stop ≤ length s → (a : Ahead) → aheadAfter sw s (key .stop) 58 ≡ a → AfterKeyIs sw s (key .start) (key .stop) (keyedItem key a)
+  unfolding keyedItem colon-at atEnd
+  after-by h (H.Token t) e =
+      let p = past-token sw s (key .stop) 58 h t e in
+      let a = p .mark .ahead in
+      let b = p .mark .some in
+      let d = p .token .ahead in (
+        refl,
+        refl,
+        omega arith,
+        p .token .token,
+        λ limits stack m.
+            mark-go sw limits s (key .stop) (config stack (colon colon-at) m) 58 (p .place) (config stack (value true (some colon-at)) m) (p .mark)
+            (colon-goes limits stack m (p .mark .start) (p .place))
+            ∙ value-opens sw limits s (p .place) (t .kind) (t .start) (t .stop) (p .token) true (some colon-at) stack m,
+      )
+  after-by h (H.Refused f) e =
+      λ limits stack m.
+      past-refuses sw s (key .stop) 58 h f e limits (config stack (colon colon-at) m) (config stack (value true (some colon-at)) m) (colon-wants limits stack m)
+      (colon-goes limits stack m) (λ place. refl)
 
-  module _ (e : ℕ) (q : Marked sw s stop 58 e) where
-    pub key-value : (k : TokenKind) (p r : ℕ) → Peeked sw s e k p r → AfterKeyIs sw s start stop (I.Value k p r start stop)
-    unfolding colon-at
-    key-value k p r t =
-        let h = t .ahead in
-        let a = q .ahead in
-        let b = q .some in (
-          refl,
-          refl,
-          omega arith,
-          t .token,
-          λ limits stack m. colon-run e q limits stack m ∙ value-opens sw limits s e k p r t true (some colon-at) stack m,
-        )
-
-    pub key-end : (place : ℕ) → firstOf (tokensFrom sw s e) ≡ N.End place → AfterKeyIs sw s start stop (I.Wrong 7 place)
-    unfolding colon-at atEnd
-    key-end place f = λ limits stack m. colon-run e q limits stack m ∙ end-run sw limits s e (config stack (value true (some colon-at)) m) place f
-
-    pub key-fault : (number place : ℕ) → firstOf (tokensFrom sw s e) ≡ N.Fault number place → AfterKeyIs sw s start stop (I.Wrong number place)
-    unfolding colon-at
-    key-fault number place f = λ limits stack m. colon-run e q limits stack m ∙ fault-run sw limits s e (config stack (value true (some colon-at)) m) number place f
+  -- what `after_key` has answered
+  pub after-is : key .stop ≤ length s → (r : Item) → r ≡ keyedItem key (aheadAfter sw s (key .stop) 58) → AfterKeyIs sw s (key .start) (key .stop) r
+  after-is h r e = subst (AfterKeyIs sw s (key .start) (key .stop)) (sym e) (after-by h (aheadAfter sw s (key .stop) 58) refl)
 
 -- a key's content, by the machine and by its bytes alone
 pub key-content : (f : Form) → isKey (kindOf f) ≡ true → (w : List ℕ) × ((keyOf f ≡ some w) × (keyContent f ≡ some w))
@@ -324,7 +373,7 @@ module _ (sw : Switches) (s tab : List ℕ) (i x m : ℕ) (k : TokenKind) (start
     -- what stands after the key is what stands where the child is due
     pub field-key : length s ≤ 65536 → FoundKey sw s tab x m start stop false → (z : ℕ) (r : Item) → AfterKeyIs sw s start stop r → ItemIs sw s Object tab i x m z r
     unfolding w key-here
-    field-key short F z (I.Value j a b c d) A =
+    field-key short F z (I.Value u key) A =
         let t = p .token in
         let h = p .ahead in
         let o = t .ordered in
@@ -344,9 +393,9 @@ module _ (sw : Switches) (s tab : List ℕ) (i x m : ℕ) (k : TokenKind) (start
           ran =
               λ limits l ts ks stack K.
               new-run F limits l ts ks stack z K ∙ A .4 limits (frame Object l ts (ks ++ (w ∷ [])) ∷ stack) m
-              ∙ ap (λ (q : Option Span). openedHere sw limits s a b true q m (frame Object l ts (ks ++ (w ∷ [])) ∷ stack))
+              ∙ ap (λ (q : Option Span). openedHere sw limits s (u .start) (u .stop) true q m (frame Object l ts (ks ++ (w ∷ [])) ∷ stack))
               (sym (span-some start stop o) ∙ (λ q. spanAt (sym c-is q) (sym d-is q)));
         }
     field-key short F z (I.Last j) A = absurd A
-    field-key short F z (I.Wrong number place) A =
+    field-key short F z (I.Wrong f) A =
         record { ran = λ limits l ts ks stack K. new-run F limits l ts ks stack z K ∙ A limits (frame Object l ts (ks ++ (w ∷ [])) ∷ stack) m }

@@ -15,27 +15,32 @@ use Rattle.text.specs.declared.switches.Switches.{Switches}
 use Rattle.text.specs.Utf8.{utf8, isWhole, wholeFront}
 use Rattle.text.proofs.Utf8Laws.{utf8-whole, utf8-less}
 use Rattle.lexer.specs.declared.item.TokenKind.{TokenKind}
+use Rattle.lexer.specs.declared.item.Next.{Next}
 use Rattle.lexer.specs.declared.item.Next.the-variants as N
 use Rattle.lexer.specs.Token.{tokens, tokensFrom}
 use Rattle.lexer.specs.Answer.{firstOf}
 use Rattle.reader.specs.declared.tree.Limits.{Limits}
+use Rattle.reader.specs.declared.tree.Rules.{Rules}
+use Rattle.reader.specs.declared.tree.Refusal.{Refusal}
+use Rattle.reader.specs.declared.items.Ahead.the-variants as H
 use Rattle.reader.specs.declared.read.Whole.{Whole}
 use Rattle.reader.specs.declared.read.Whole.the-variants as W
 use Rattle.reader.specs.declared.read.Reading.the-variants as R
 use Rattle.reader.specs.Tree.{rows, noParent, padded}
 use Rattle.reader.specs.Syntax.{label, value, done, config, ended, finished, modeStep, step, Outcome, refused, atEnd, run, before}
 use Rattle.reader.specs.Reading.{nodeLimit, limitsOf, limitsAlone, outcome, reading, tableOf, answerOf, spans, oneValue}
-use Rattle.reader.specs.Internal.Values.{spanAt, runFrom, openedHere, Peeked, Took, Stops}
-use Rattle.reader.specs.Internal.Whole.{TreeRead, TreeIs, WholeAt, JudgedAt}
+use Rattle.reader.specs.Internal.Ahead.{aheadAt}
+use Rattle.reader.specs.Internal.Values.{spanAt, runFrom, openedHere, Roomy, Took, Stops}
+use Rattle.reader.specs.Internal.Whole.{aloneOf, aloneAt, TreeRead, TreeIs, WholeAt, JudgedAt}
 use Rattle.reader.proofs.TableLaws.{length-rows}
-use Rattle.reader.proofs.StepRun.{peek-refuse, end-run, fault-run, value-opens}
+use Rattle.reader.proofs.StepRun.{Peeked, peeked, ahead-refuses, peek-refuse, end-run, fault-run, value-opens}
 
-module _ {sw : Switches} {limits : Limits} {any : Bool} {s tin tout : List ℕ} {r : Whole} where
-  pub tree-is : {start stop nodes : ℕ} → r ≡ W.Done start stop nodes → JudgedAt sw limits any s tin tout r → TreeRead limits (outcome sw any limits s) tin tout start stop nodes
-  tree-is e h = subst (TreeIs limits (outcome sw any limits s) tin tout) e (h .is)
+module _ {rules : Rules} {any : Bool} {s tin tout : List ℕ} {r : Whole} where
+  pub tree-is : {start stop nodes : ℕ} → r ≡ W.Done start stop nodes → JudgedAt rules any s tin tout r → TreeRead (rules .limits) (outcome (rules .sw) any (rules .limits) s) tin tout start stop nodes
+  tree-is e h = subst (TreeIs (rules .limits) (outcome (rules .sw) any (rules .limits) s) tin tout) e (h .is)
 
-  pub tree-not : {number place : ℕ} → r ≡ W.Refused number place → JudgedAt sw limits any s tin tout r → outcome sw any limits s ≡ refused number place
-  tree-not e h = subst (TreeIs limits (outcome sw any limits s) tin tout) e (h .is)
+  pub tree-not : {f : Refusal} → r ≡ W.Refused f → JudgedAt rules any s tin tout r → outcome (rules .sw) any (rules .limits) s ≡ refused (f .number) (f .place)
+  tree-not e h = subst (TreeIs (rules .limits) (outcome (rules .sw) any (rules .limits) s) tin tout) e (h .is)
 
 -- ---- one value and nothing after it
 
@@ -44,24 +49,21 @@ module _ (sw : Switches) (limits : Limits) (any : Bool) (s : List ℕ) where
   unfolding runFrom tokens tokensFrom before
   from-start = refl
 
-  pub whole-end : (place : ℕ) → firstOf (tokensFrom sw s 0) ≡ N.End place → run sw limits (tokens sw s) (before any) ≡ refused 7 place
+  pub whole-none : (f : Refusal) → aheadAt sw s 0 ≡ H.Refused f → run sw limits (tokens sw s) (before any) ≡ refused (f .number) (f .place)
   unfolding atEnd
-  whole-end place e = from-start ∙ end-run sw limits s 0 (config [] (value any none) 0) place e
-
-  pub whole-fault : (number place : ℕ) → firstOf (tokensFrom sw s 0) ≡ N.Fault number place → run sw limits (tokens sw s) (before any) ≡ refused number place
-  whole-fault number place e = from-start ∙ fault-run sw limits s 0 (config [] (value any none) 0) number place e
+  whole-none f e = from-start ∙ ahead-refuses sw s 0 f e limits (config [] (value any none) 0) (λ place. refl)
 
   module _ (k : TokenKind) (start stop : ℕ) (p : Peeked sw s 0 k start stop) where
     pub whole-stops : (number place : ℕ) → Stops (openedHere sw limits s start stop any (spanAt 0 0) 0) 0 number place → run sw limits (tokens sw s) (before any) ≡ refused number place
     unfolding spanAt
     whole-stops number place T = from-start ∙ value-opens sw limits s 0 k start stop p any none [] 0 ∙ T .ran [] refl
 
-    module _ (tin tout : List ℕ) (j m : ℕ) (T : Took sw limits s (openedHere sw limits s start stop any (spanAt 0 0) 0) (label start (spanAt 0 0) none) none start 0 4294967295 0 tin tout j m) where
+    module _ (tin tout : List ℕ) (j m : ℕ) (T : Took sw limits s (openedHere sw limits s start stop any (spanAt 0 0) 0) (label start (spanAt 0 0) none) start 0 4294967295 0 tin tout j m) where
       to-done : run sw limits (tokens sw s) (before any) ≡ runFrom sw limits s j (config [] (done (T .tree)) m)
       unfolding spanAt ended finished
       to-done = from-start ∙ value-opens sw limits s 0 k start stop p any none [] 0 ∙ T .ran [] refl
 
-      pub whole-taken : (place : ℕ) → firstOf (tokensFrom sw s j) ≡ N.End place → TreeRead limits (run sw limits (tokens sw s) (before any)) tin tout start j m
+      whole-taken : (place : ℕ) → firstOf (tokensFrom sw s j) ≡ N.End place → TreeRead limits (run sw limits (tokens sw s) (before any)) tin tout start j m
       unfolding atEnd
       whole-taken place e =
           record {
@@ -74,12 +76,22 @@ module _ (sw : Switches) (limits : Limits) (any : Bool) (s : List ℕ) where
             wrote = T .wrote;
           }
 
-      pub whole-more : (kind : TokenKind) (a b : ℕ) → Peeked sw s j kind a b → run sw limits (tokens sw s) (before any) ≡ refused 7 a
+      whole-more : (kind : TokenKind) (a b : ℕ) → Peeked sw s j kind a b → run sw limits (tokens sw s) (before any) ≡ refused 7 a
       unfolding step modeStep
       whole-more kind a b q = to-done ∙ peek-refuse sw limits s j (config [] (done (T .tree)) m) kind a b 7 q refl
 
-      pub whole-bad : (number place : ℕ) → firstOf (tokensFrom sw s j) ≡ N.Fault number place → run sw limits (tokens sw s) (before any) ≡ refused number place
+      whole-bad : (number place : ℕ) → firstOf (tokensFrom sw s j) ≡ N.Fault number place → run sw limits (tokens sw s) (before any) ≡ refused number place
       whole-bad number place e = to-done ∙ fault-run sw limits s j (config [] (done (T .tree)) m) number place e
+
+      -- what `only_value` has answered
+      whole-by : (x : Next) → firstOf (tokensFrom sw s j) ≡ x → TreeIs limits (run sw limits (tokens sw s) (before any)) tin tout (aloneOf start j m x)
+      unfolding aloneOf
+      whole-by (N.Token kind a b) e = whole-more kind a b (peeked sw s j kind a b (T .inside) e)
+      whole-by (N.End place) e = whole-taken place e
+      whole-by (N.Fault number place) e = whole-bad number place e
+
+      pub whole-is : (r : Whole) → r ≡ aloneAt sw s start j m → TreeIs limits (run sw limits (tokens sw s) (before any)) tin tout r
+      whole-is r e = subst (TreeIs limits (run sw limits (tokens sw s) (before any)) tin tout) (sym e) (whole-by (firstOf (tokensFrom sw s j)) refl)
 
 -- ---- length, then UTF-8, then the rest
 
@@ -88,9 +100,9 @@ module _ (sw : Switches) (limits : Limits) (any : Bool) (s : List ℕ) where
   unfolding outcome
   too-long h = rw (lt-leb (length s) 65536 h)
 
-  whole-is : (t : Bool) → isWhole (utf8 s) ≡ t → wholeFront (utf8 s) < length s → t ≡ false
-  whole-is true e h = let w = utf8-whole s e in absurd (omega arith)
-  whole-is false e h = refl
+  utf8-is : (t : Bool) → isWhole (utf8 s) ≡ t → wholeFront (utf8 s) < length s → t ≡ false
+  utf8-is true e h = let w = utf8-whole s e in absurd (omega arith)
+  utf8-is false e h = refl
 
   whole-not : (t : Bool) → isWhole (utf8 s) ≡ t → length s ≤ wholeFront (utf8 s) → t ≡ true
   whole-not true e h = refl
@@ -100,7 +112,7 @@ module _ (sw : Switches) (limits : Limits) (any : Bool) (s : List ℕ) where
   unfolding outcome
   not-utf8 front h e l =
       let g : wholeFront (utf8 s) < length s = omega arith in
-      rw (le-leb (length s) 65536 h, whole-is (isWhole (utf8 s)) refl g) (ap (refused 2) (sym e))
+      rw (le-leb (length s) 65536 h, utf8-is (isWhole (utf8 s)) refl g) (ap (refused 2) (sym e))
 
   is-run : (front : ℕ) → length s ≤ 65536 → front ≡ wholeFront (utf8 s) → length s ≤ front → outcome sw any limits s ≡ run sw limits (tokens sw s) (before any)
   unfolding outcome
@@ -111,11 +123,16 @@ module _ (sw : Switches) (limits : Limits) (any : Bool) (s : List ℕ) where
   judged-is : (tin tout : List ℕ) (r : Whole) (o q : Outcome) → q ≡ o → TreeIs limits o tin tout r → TreeIs limits q tin tout r
   judged-is tin tout (W.Done start stop nodes) o q e T =
       record { tree = T .tree; is = e ∙ T .is; begun = T .begun; stopped = T .stopped; grew = T .grew; below = T .below; wrote = T .wrote }
-  judged-is tin tout (W.Refused number place) o q e T = e ∙ T
+  judged-is tin tout (W.Refused f) o q e T = e ∙ T
 
-  pub judged : (tin tout : List ℕ) (r : Whole) (front : ℕ) → length s ≤ 65536 → front ≡ wholeFront (utf8 s) → length s ≤ front → WholeAt sw limits any s tin tout r
-      → JudgedAt sw limits any s tin tout r
-  judged tin tout r front h e l T = record { is = judged-is tin tout r (run sw limits (tokens sw s) (before any)) (outcome sw any limits s) (is-run front h e l) (T .is) }
+pub judged : (rules : Rules) (any : Bool) (s tin tout : List ℕ) (r : Whole) (front : ℕ) → length s ≤ 65536 → front ≡ wholeFront (utf8 s) → length s ≤ front → WholeAt rules any s tin tout r
+    → JudgedAt rules any s tin tout r
+judged rules any s tin tout r front h e l T =
+    record {
+      is =
+          judged-is (rules .sw) (rules .limits) any s tin tout r (run (rules .sw) (rules .limits) (tokens (rules .sw) s) (before any)) (outcome (rules .sw) any (rules .limits) s)
+          (is-run (rules .sw) (rules .limits) any s front h e l) (T .is);
+    }
 
 -- ---- the table
 
@@ -150,9 +167,9 @@ unfolding nodeLimit
 limit-high words q e h = omega arith
 
 -- what `judge` asks of the limit
-pub limit-fits : (words nodes : ℕ) → nodes ≡ nodeLimit words → (12 * nodes ≤ words) × (nodes ≤ 4096)
+pub limit-fits : (depth nodes : ℕ) (tab : List ℕ) → nodes ≡ nodeLimit (length tab) → Roomy (record { depth = depth; nodes = nodes }) tab
 unfolding nodeLimit
-limit-fits words nodes e = (omega arith, omega arith)
+limit-fits depth nodes tab e = record { room = omega arith; small = omega arith }
 
 module _ (sw : Switches) (s : List ℕ) (words : ℕ) (limits : Limits) (e : limits ≡ limitsOf words) (tin : List ℕ) (z : tin ≡ replicate words 0) where
   to-reading : reading sw words s ≡ outcome sw false limits s

@@ -11,8 +11,8 @@ use lib.ListN.{length, set, getD}
 use lib.Seq.{sets, set-comm}
 use borrow.Author.Tests.{ne-eqb}
 use Rattle.reader.specs.declared.tree.Kind.{Kind}
-use Rattle.reader.specs.declared.tree.Leaf.{Leaf}
-use Rattle.reader.specs.declared.tree.Spans.{Spans}
+use Rattle.reader.specs.declared.tree.Words.{Words}
+use Rattle.reader.specs.declared.tree.Label as CL
 use Rattle.reader.specs.Tree.{Span, Scalar, text, bytes, integer, decimal, falseValue, trueValue, nullValue, Tree, leaf, branch, Forest, snoc, count, size, sizes, headOf, spanWords, headWords, kindNumber, scalarNumber, scalarWords, rows, rowsAll}
 use Rattle.reader.specs.Syntax.{headBy, stopAt, withStop}
 use Rattle.reader.specs.Internal.Tokens.{leafOf}
@@ -54,19 +54,19 @@ three falseValue = refl
 three trueValue = refl
 three nullValue = refl
 
-module _ (p : Spans) (ok : Sane p) where
+module _ (p : CL.Label) (ok : Sane p) where
   -- words 0 to 8
   head-words : (kind parent stop next : ℕ)
-      → headWords kind parent (headBy (labelOf p) stop) next ≡ kind ∷ parent ∷ p .start ∷ stop ∷ p .key ∷ p .keyend ∷ p .name ∷ p .nameend ∷ next ∷ []
+      → headWords kind parent (headBy (labelOf p) stop) next ≡ kind ∷ parent ∷ p .start ∷ stop ∷ p .key .start ∷ p .key .stop ∷ p .name .start ∷ p .name .stop ∷ next ∷ []
   unfolding headWords headBy labelOf
   head-words kind parent stop next =
-      λ i. kind ∷ parent ∷ p .start ∷ stop ∷ (span-words (p .key) (p .keyend) (ok .keys) i ++ (span-words (p .name) (p .nameend) (ok .names) i ++ (next ∷ [])))
+      λ i. kind ∷ parent ∷ p .start ∷ stop ∷ (span-words (p .key .start) (p .key .stop) (ok .keys) i ++ (span-words (p .name .start) (p .name .stop) (ok .names) i ++ (next ∷ [])))
 
-  pub leaf-row : (parent n stop : ℕ) (v : Scalar) (l : Leaf) → l ≡ leafOf v
+  pub leaf-row : (parent n stop : ℕ) (v : Scalar) (l : Words) → l ≡ leafOf v
       → rowWords (l .kind) parent p stop (n + 1) (l .a) (l .b) (l .c) ≡ rows parent n (leaf (headBy (labelOf p) stop) v)
   unfolding rows leafOf
   leaf-row parent n stop v l e =
-      ap (λ (x : Leaf). rowWords (x .kind) parent p stop (n + 1) (x .a) (x .b) (x .c)) e
+      ap (λ (x : Words). rowWords (x .kind) parent p stop (n + 1) (x .a) (x .b) (x .c)) e
       ∙ ap (λ (k : ℕ). rowWords (scalarNumber v) parent p stop k (getD (scalarWords v) 0 0) (getD (scalarWords v) 1 0) (getD (scalarWords v) 2 0)) (add-one n)
       ∙ sym (λ i. head-words (scalarNumber v) parent stop (suc n) i ++ three v i)
 
@@ -93,13 +93,12 @@ glue tin tab out n m ts t g w v =
     ∙ ap (sets tin (12 * (n + 1))) (sym (rowsAll-snoc n (n + 1) ts t))
 
 -- the row of a container, written after those of its children
-pub crown : (tin tab out : List ℕ) (p : Spans) → Sane p → (kind : Kind) (word parent n m z stop : ℕ) (ts : Forest) → word ≡ kindNumber kind → m ≡ n + 1 + sizes ts → z ≡ count ts
-    → tab ≡ sets tin (12 * (n + 1)) (rowsAll n (n + 1) ts) → out ≡ sets tab (12 * n) (rowWords word parent p stop m z 0 0)
+pub crown : (tin tab out : List ℕ) (p : CL.Label) → Sane p → (kind : Kind) (parent n m z stop : ℕ) (ts : Forest) → m ≡ n + 1 + sizes ts → z ≡ count ts
+    → tab ≡ sets tin (12 * (n + 1)) (rowsAll n (n + 1) ts) → out ≡ sets tab (12 * n) (rowWords (kindNumber kind) parent p stop m z 0 0)
     → out ≡ sets tin (12 * n) (rows parent n (branch (headBy (labelOf p) stop) kind ts))
-crown tin tab out p ok kind word parent n m z stop ts f g c w v =
+crown tin tab out p ok kind parent n m z stop ts g c w v =
     let k : 12 * (n + 1) ≡ 12 * n + 12 = omega arith in
     v
-    ∙ ap (λ (x : ℕ). sets tab (12 * n) (rowWords x parent p stop m z 0 0)) f
     ∙ ap (λ (l : List ℕ). sets l (12 * n) (rowWords (kindNumber kind) parent p stop m z 0 0)) w
     ∙ sets-swap (rowWords (kindNumber kind) parent p stop m z 0 0) tin (12 * n) (12 * (n + 1)) (rowsAll n (n + 1) ts) (omega arith)
     ∙ ap (λ (x : ℕ). sets (sets tin (12 * n) (rowWords (kindNumber kind) parent p stop m z 0 0)) x (rowsAll n (n + 1) ts)) k

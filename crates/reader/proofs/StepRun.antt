@@ -1,7 +1,8 @@
 -- The machine's run by what the code has peeked at: one token's step, and what a container's slots do with a token.
 -- Assumes nothing.
 use mathlib.Core.Path.{_≡_, refl, sym, ap, _∙_, subst}
-use Prim.Native.Nat.{ℕ, suc, _-_, _≤_}
+use Prim.Native.Nat.{ℕ, suc, _-_, _≤_, _<_}
+use native.Mathlib.Omega.{arith}
 use Prim.Native.Char.{Char, code}
 use mathlib.Core.Bool.{Bool, true, false, cond, _&&_, false≢true}
 use mathlib.Core.Option.{Option, none, some}
@@ -11,6 +12,7 @@ use lib.ListN.{length}
 use borrow.Author.Tests.{eq-eqb, ne-eqb, eqb-true}
 use Rattle.text.specs.declared.switches.Switches.{Switches}
 use Rattle.lexer.specs.declared.item.TokenKind.{TokenKind}
+use Rattle.lexer.specs.declared.item.Next.{Next}
 use Rattle.lexer.specs.declared.item.Next.the-variants as N
 use Rattle.lexer.specs.Token as L
 use Rattle.lexer.specs.Token.{Form, Token, Tokens, tokensFrom}
@@ -19,12 +21,46 @@ use Rattle.lexer.proofs.NextLaws.{next-ahead, next-end, next-fault}
 use Rattle.reader.specs.declared.tree.Kind.{Kind}
 use Rattle.reader.specs.declared.tree.Kind.the-variants.{Object, Array, Tuple}
 use Rattle.reader.specs.declared.tree.Limits.{Limits}
+use Rattle.reader.specs.declared.tree.Refusal.{Refusal}
+use Rattle.reader.specs.declared.tree.Token as CT
+use Rattle.reader.specs.declared.items.Ahead.{Ahead}
+use Rattle.reader.specs.declared.items.Ahead.the-variants as H
+use Rattle.reader.specs.declared.items.Only.{Only}
+use Rattle.reader.specs.declared.items.Only.the-variants as O
 use Rattle.reader.specs.Tree.{Span, branch, Forest}
 use Rattle.reader.specs.Syntax.{Label, label, Frame, frame, Slot, first, lone, after, more, Mode, value, inside, Config, config, Step, go, refuse, Begins, container, scalar, identifier, nothing, begins, spanOf, isMark, isObject, closer, keyOf, headBy, ended, keyStep, closeOr, emptyByComma, noNode, counted, valueStep, freshValue, childStep, slotStep, modeStep, step, refused, atEnd, afterStep, run}
 use Rattle.reader.specs.Internal.Tokens.{formOf, formAt, tokenAt, TokenAt}
-use Rattle.reader.specs.Internal.Values.{runFrom, opened, openedHere, Peeked, markIs, closerByte, Marked, Wants, NotMarked, slotOf, innerAt}
+use Rattle.reader.specs.Internal.Ahead.{markIs, closerByte, aheadOf, aheadAt, onlyOf, onlyAt, pastMark, aheadAfter}
+use Rattle.reader.specs.Internal.Values.{runFrom, opened, openedHere, slotOf, innerAt}
 
 -- ---- what `next_token` has found
+
+-- the next token from `from` is of the kind k, from `start` to `stop`
+pub record Peeked (sw : Switches) (s : List ℕ) (from : ℕ) (k : TokenKind) (start stop : ℕ) : Type 0 where
+  pub ahead : from ≤ start
+  pub token : TokenAt sw s k start stop
+  pub toks : tokensFrom sw s from ≡ L.next (tokenAt sw s start stop) (tokensFrom sw s stop)
+
+-- the next token from `from` is this mark, and ends at `stop`
+pub record Marked (sw : Switches) (s : List ℕ) (from want stop : ℕ) : Type 0 where
+  pub start : ℕ
+  pub ahead : from ≤ start
+  pub some : start < stop
+  pub inside : stop ≤ length s
+  pub toks : tokensFrom sw s from ≡ L.next (record { form = L.mark want; start = start; stop = stop }) (tokensFrom sw s stop)
+
+-- a state in which the text may not end
+abbrev pub Unended : Config → Type 0
+Unended c = (place : ℕ) → atEnd place (c .mode) ≡ refused 7 place
+
+-- a state in which that mark alone is allowed
+pub record Wants (sw : Switches) (limits : Limits) (want : ℕ) (c : Config) : Type 0 where
+  pub others : (t : Token) → ((b : ℕ) → t .form ≡ L.mark b → b ≡ want → ⊥) → step sw limits c t ≡ refuse 7
+  pub ends : Unended c
+
+-- it is another one, a fault or the end: every state in which that mark alone is allowed comes to this refusal
+pub record NotMarked (sw : Switches) (s : List ℕ) (from want number place : ℕ) : Type 0 where
+  pub ran : (limits : Limits) (c : Config) → Wants sw limits want c → runFrom sw limits s from c ≡ refused number place
 
 module _ (sw : Switches) (s : List ℕ) (from : ℕ) where
   pub peeked : (k : TokenKind) (start stop : ℕ) → from ≤ length s → firstOf (tokensFrom sw s from) ≡ N.Token k start stop → Peeked sw s from k start stop
@@ -139,11 +175,102 @@ module _ (sw : Switches) (s : List ℕ) (from want : ℕ) where
             (w .others (tokenAt sw s start stop) (mark-kind-not (formAt sw s start) want (ap (λ (x : TokenKind). markIs x want) (p .token .kind) ∙ e)));
       }
 
-  pub not-end : (place : ℕ) → firstOf (tokensFrom sw s from) ≡ N.End place → NotMarked sw s from want 7 place
-  not-end place e = record { ran = λ limits c w. end-run sw limits s from c place e ∙ w .ends place }
+-- ---- what the functions that look ahead have answered
 
-  pub not-fault : (number place : ℕ) → firstOf (tokensFrom sw s from) ≡ N.Fault number place → NotMarked sw s from want number place
-  not-fault number place e = record { ran = λ limits c w. fault-run sw limits s from c number place e }
+token-is : (x : Next) (t : CT.Token) → aheadOf x ≡ H.Token t → x ≡ N.Token (t .kind) (t .start) (t .stop)
+unfolding aheadOf
+token-is (N.Token k a b) t e =
+    let h : _≡_ {A = CT.Token} (record { kind = k; start = a; stop = b }) t = cc in
+    λ i. N.Token (h i .kind) (h i .start) (h i .stop)
+token-is (N.End place) t e = cc
+token-is (N.Fault number place) t e = cc
+
+module _ (sw : Switches) (s : List ℕ) (from : ℕ) where
+  -- a token
+  pub ahead-token : (t : CT.Token) → from ≤ length s → aheadAt sw s from ≡ H.Token t → Peeked sw s from (t .kind) (t .start) (t .stop)
+  ahead-token t h e = peeked sw s from (t .kind) (t .start) (t .stop) h (token-is (firstOf (tokensFrom sw s from)) t e)
+
+  -- a fault or the text's end: every state in which the text may not end comes to this refusal
+  pub ahead-refuses : (f : Refusal) → aheadAt sw s from ≡ H.Refused f → (limits : Limits) (c : Config) → Unended c
+      → runFrom sw limits s from c ≡ refused (f .number) (f .place)
+  unfolding aheadOf
+  ahead-refuses f e limits c ends = on (firstOf (tokensFrom sw s from)) refl e
+    where
+      on : (x : Next) → firstOf (tokensFrom sw s from) ≡ x → aheadOf x ≡ H.Refused f → runFrom sw limits s from c ≡ refused (f .number) (f .place)
+      on (N.Token k a b) q r = let z : _≡_ {A = ℕ} 0 1 = cc in absurd (omega arith)
+      on (N.End place) q r =
+          let h : _≡_ {A = Refusal} (record { number = 7; place = place }) f = cc in
+          end-run sw limits s from c place q ∙ ends place ∙ (λ i. refused (h i .number) (h i .place))
+      on (N.Fault number place) q r =
+          let h : _≡_ {A = Refusal} (record { number = number; place = place }) f = cc in
+          fault-run sw limits s from c number place q ∙ (λ i. refused (h i .number) (h i .place))
+
+module _ (sw : Switches) (s : List ℕ) (from want : ℕ) (h : from ≤ length s) where
+  -- the mark that has to come next
+  pub only-at : (stop : ℕ) → onlyAt sw s from want ≡ O.At stop → Marked sw s from want stop
+  unfolding onlyOf
+  only-at stop e = on (aheadAt sw s from) refl e
+    where
+      by : (t : CT.Token) → aheadAt sw s from ≡ H.Token t → (b : Bool) → markIs (t .kind) want ≡ b
+          → cond b (O.At (t .stop)) (O.Not (record { number = 7; place = t .start })) ≡ O.At stop → Marked sw s from want stop
+      by t q true m r =
+          let x : t .stop ≡ stop = cc in
+          subst (Marked sw s from want) x (marked sw s from want (t .kind) (t .start) (t .stop) (ahead-token sw s from t h q) m)
+      by t q false m r = let z : _≡_ {A = ℕ} 0 1 = cc in absurd (omega arith)
+
+      on : (a : Ahead) → aheadAt sw s from ≡ a → onlyOf want a ≡ O.At stop → Marked sw s from want stop
+      on (H.Token t) q r = by t q (markIs (t .kind) want) refl r
+      on (H.Refused f) q r = let z : _≡_ {A = ℕ} 0 1 = cc in absurd (omega arith)
+
+  pub only-not : (f : Refusal) → onlyAt sw s from want ≡ O.Not f → NotMarked sw s from want (f .number) (f .place)
+  unfolding onlyOf
+  only-not f e = on (aheadAt sw s from) refl e
+    where
+      by : (t : CT.Token) → aheadAt sw s from ≡ H.Token t → (b : Bool) → markIs (t .kind) want ≡ b
+          → cond b (O.At (t .stop)) (O.Not (record { number = 7; place = t .start })) ≡ O.Not f → NotMarked sw s from want (f .number) (f .place)
+      by t q true m r = let z : _≡_ {A = ℕ} 0 1 = cc in absurd (omega arith)
+      by t q false m r =
+          let x : _≡_ {A = Refusal} (record { number = 7; place = t .start }) f = cc in
+          subst (λ (g : Refusal). NotMarked sw s from want (g .number) (g .place)) x
+          (not-marked sw s from want (t .kind) (t .start) (t .stop) (ahead-token sw s from t h q) m)
+
+      on : (a : Ahead) → aheadAt sw s from ≡ a → onlyOf want a ≡ O.Not f → NotMarked sw s from want (f .number) (f .place)
+      on (H.Token t) q r = by t q (markIs (t .kind) want) refl r
+      on (H.Refused g) q r =
+          let x : g ≡ f = cc in
+          record { ran = λ limits c w. ahead-refuses sw s from f (q ∙ ap H.Refused x) limits c (w .ends) }
+
+-- this mark comes next, and then this token
+pub record Past (sw : Switches) (s : List ℕ) (from want : ℕ) (t : CT.Token) : Type 0 where
+  pub place : ℕ
+  pub mark : Marked sw s from want place
+  pub token : Peeked sw s place (t .kind) (t .start) (t .stop)
+
+module _ (sw : Switches) (s : List ℕ) (from want : ℕ) (h : from ≤ length s) where
+  pub past-token : (t : CT.Token) → aheadAfter sw s from want ≡ H.Token t → Past sw s from want t
+  unfolding pastMark
+  past-token t e = on (onlyAt sw s from want) refl e
+    where
+      on : (o : Only) → onlyAt sw s from want ≡ o → pastMark sw s o ≡ H.Token t → Past sw s from want t
+      on (O.At place) q r =
+          let m = only-at sw s from want h place q in
+          record { place = place; mark = m; token = ahead-token sw s place t (m .inside) r }
+      on (O.Not f) q r = let z : _≡_ {A = ℕ} 0 1 = cc in absurd (omega arith)
+
+  -- a state in which that mark alone is allowed, and which it leads to one in which the text may not end
+  pub past-refuses : (f : Refusal) → aheadAfter sw s from want ≡ H.Refused f → (limits : Limits) (c d : Config) → Wants sw limits want c
+      → ((start stop : ℕ) → step sw limits c (record { form = L.mark want; start = start; stop = stop }) ≡ go d) → Unended d
+      → runFrom sw limits s from c ≡ refused (f .number) (f .place)
+  unfolding pastMark
+  past-refuses f e limits c d w goes ends = on (onlyAt sw s from want) refl e
+    where
+      on : (o : Only) → onlyAt sw s from want ≡ o → pastMark sw s o ≡ H.Refused f → runFrom sw limits s from c ≡ refused (f .number) (f .place)
+      on (O.At place) q r =
+          let m = only-at sw s from want h place q in
+          mark-go sw limits s from c want place d m (goes (m .start) place) ∙ ahead-refuses sw s place f r limits d ends
+      on (O.Not g) q r =
+          let x : g ≡ f = cc in
+          only-not sw s from want h f (q ∙ ap O.Not x) .ran limits c w
 
 -- ---- slots
 

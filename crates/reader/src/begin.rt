@@ -7,10 +7,11 @@ ghost use lib.ListN.{length};
 ghost use lib.Signed.{leZ};
 ghost use Rattle.reader.specs.Tree.{integer, decimal, twosComplement, plus1000};
 ghost use Rattle.reader.specs.Syntax.{opensWithCapital};
-ghost use Rattle.reader.specs.Internal.Tokens.{TokenAt, leafOf, Begun, markBegin, wordBegin, DecimalFits};
+ghost use Rattle.reader.specs.Internal.Tokens.{IsToken, leafOf, Begun, markBegin, wordBegin, DecimalFits};
 use super::tree::Begin;
 use super::tree::Kind;
-use super::tree::Leaf;
+use super::tree::Token;
+use super::tree::Words;
 use lexer::item::TokenKind;
 use text::bytes::same_bytes;
 use text::switches::Switches;
@@ -28,11 +29,11 @@ fn bits_of(z: i64) -> u64
     z as u64
 }
 
-fn integer_leaf(z: i64) -> Leaf
+fn integer_leaf(z: i64) -> Words
     ensures { λ r. ⌜ r ≡ leafOf (integer z) ⌝ }
 {
     let bits = bits_of(z);
-    Leaf {
+    Words {
         kind: 6,
         a: (bits % 4294967296) as u32,
         b: (bits / 4294967296) as u32,
@@ -48,7 +49,7 @@ fn power_word(p: i64) -> u32
     (p + 1000) as u32
 }
 
-fn decimal_leaf(minus: bool, m: u64, p: i64) -> Leaf
+fn decimal_leaf(minus: bool, m: u64, p: i64) -> Words
     requires { ⌜ DecimalFits m p ⌝ }
     ensures { λ r. ⌜ r ≡ leafOf (decimal minus m p) ⌝ }
 {
@@ -56,14 +57,14 @@ fn decimal_leaf(minus: bool, m: u64, p: i64) -> Leaf
     let low = (m % 4294967296) as u32;
     let high = (m / 4294967296) as u32;
     if minus {
-        return Leaf {
+        return Words {
             kind: 7,
             a: low,
             b: high + 2147483648,
             c: power,
         };
     }
-    Leaf {
+    Words {
         kind: 7,
         a: low,
         b: high,
@@ -89,7 +90,7 @@ fn word_begin(word: &[u8]) -> Begin
     ensures { λ r. ⌜ r ≡ wordBegin (now (word .entry)) ⌝ }
 {
     if same_bytes(word, b"true") {
-        return Begin::Scalar(Leaf {
+        return Begin::Scalar(Words {
             kind: 9,
             a: 0,
             b: 0,
@@ -97,7 +98,7 @@ fn word_begin(word: &[u8]) -> Begin
         });
     }
     if same_bytes(word, b"false") {
-        return Begin::Scalar(Leaf {
+        return Begin::Scalar(Words {
             kind: 8,
             a: 0,
             b: 0,
@@ -105,7 +106,7 @@ fn word_begin(word: &[u8]) -> Begin
         });
     }
     if same_bytes(word, b"null") {
-        return Begin::Scalar(Leaf {
+        return Begin::Scalar(Words {
             kind: 10,
             a: 0,
             b: 0,
@@ -135,22 +136,25 @@ fn mark_begin(b: u8) -> Begin
 
 // ---- tokens
 
-// What the token of the kind `kind` from `start` to before `stop` begins.
-pub fn begin_of(sw: Switches, text: &[u8], kind: TokenKind, start: usize, stop: usize) -> Begin
-    requires { ⌜ TokenAt sw (now text) kind start stop ⌝ }
+// What a token begins.
+pub(crate) fn begin_of(sw: Switches, text: &[u8], token: Token) -> Begin
+    requires { ⌜ IsToken sw (now text) token ⌝ }
     requires { ⌜ length (now text) ≤ 65536 ⌝ }
-    ensures { λ r. ⌜ Begun sw (now (text .entry)) start stop r ⌝ }
+    ensures { λ r. ⌜ Begun sw (now (text .entry)) (token .start) (token .stop) r ⌝ }
 {
+    let kind = token.kind;
+    let start = token.start;
+    let stop = token.stop;
     match kind {
         TokenKind::Mark(b) => mark_begin(b),
         TokenKind::Word => word_begin(&text[start..stop]),
-        TokenKind::Text(n) => Begin::Scalar(Leaf {
+        TokenKind::Text(n) => Begin::Scalar(Words {
             kind: 4,
             a: start as u32,
             b: stop as u32,
             c: n as u32,
         }),
-        TokenKind::Bytes(n) => Begin::Scalar(Leaf {
+        TokenKind::Bytes(n) => Begin::Scalar(Words {
             kind: 5,
             a: start as u32,
             b: stop as u32,

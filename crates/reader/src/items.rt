@@ -5,43 +5,60 @@ ghost use lib.Dec.{eqb};
 ghost use Prim.Native.Nat.{_≤_};
 ghost use lib.ListN.{length};
 ghost use Rattle.reader.specs.Syntax.{isObject, emptyByComma};
-ghost use Rattle.reader.specs.Internal.Values.{markIs, isKey, closerByte, OnlyOne, Look, ItemAt, FieldAt, AfterKey, NextAt};
+ghost use Rattle.reader.specs.Internal.Ahead.{
+  aheadAt,
+  onlyAt,
+  aheadAfter,
+  keyedItem,
+  followsAt,
+  markIs,
+  isKey,
+  closerByte,
+};
+ghost use Rattle.reader.specs.Internal.Values.{Look, ItemAt, ElementAt};
 use super::keys::find_key;
+use super::tree::Children;
 use super::tree::Kind;
+use super::tree::Refusal;
+use super::tree::Span;
+use super::tree::Token;
 use lexer::item::Next;
 use lexer::item::TokenKind;
 use lexer::item::next_token;
 use text::switches::Switches;
 
-// The next token, where one mark alone is allowed.
+// The next token, where the text may not end.
+pub enum Ahead {
+    Token(Token),
+    Refused(Refusal),
+}
+
+// The end of the next token, where one mark alone is allowed.
 pub enum Only {
     At(usize),
-    Not(u8, usize),
+    Not(Refusal),
 }
 
-// A child's first token with its key's span (0, 0 if none), the end of the container, or a refusal.
+// A child's first token with its key's span, the end of the container, or a refusal.
 pub enum Item {
-    Value {
-        kind: TokenKind,
-        start: usize,
-        stop: usize,
-        key: usize,
-        keyend: usize,
-    },
+    Value { token: Token, key: Span },
     Last(usize),
-    Wrong(u8, usize),
+    Wrong(Refusal),
 }
 
-// After a child: a comma, the end, or a refusal.
+// After a child: the end of a comma, the end of the container, or a refusal.
 pub enum After {
     More(usize),
     Over(usize),
-    Off(u8, usize),
+    Off(Refusal),
 }
 
-fn is_mark(kind: TokenKind, b: u8) -> bool
-    ensures { λ r. ⌜ r ≡ markIs kind b ⌝ }
+// ---- tokens
+
+fn is_mark(token: Token, b: u8) -> bool
+    ensures { λ r. ⌜ r ≡ markIs (token .kind) b ⌝ }
 {
+    let kind = token.kind;
     match kind {
         TokenKind::Mark(c) => c == b,
         TokenKind::Word => false,
@@ -56,9 +73,10 @@ fn is_mark(kind: TokenKind, b: u8) -> bool
     }
 }
 
-fn is_key(kind: TokenKind) -> bool
-    ensures { λ r. ⌜ r ≡ isKey kind ⌝ }
+fn is_key(token: Token) -> bool
+    ensures { λ r. ⌜ r ≡ isKey (token .kind) ⌝ }
 {
+    let kind = token.kind;
     match kind {
         TokenKind::Mark(_) => false,
         TokenKind::Word => true,
@@ -72,6 +90,49 @@ fn is_key(kind: TokenKind) -> bool
         } => false,
     }
 }
+
+// The next token; the text's end is refused with 7.
+pub(crate) fn token_from(sw: Switches, text: &[u8], from: usize) -> Ahead
+    ensures { λ r. ⌜ r ≡ aheadAt sw (now (text .entry)) from ⌝ }
+{
+    match next_token(sw, text, from) {
+        Next::Token { kind, start, end } => Ahead::Token(Token {
+            kind,
+            start,
+            stop: end,
+        }),
+        Next::End(place) => Ahead::Refused(Refusal { number: 7, place }),
+        Next::Fault { number, place } => Ahead::Refused(Refusal { number, place }),
+    }
+}
+
+// The next token, which has to be this mark.
+pub(crate) fn one_mark(sw: Switches, text: &[u8], from: usize, want: u8) -> Only
+    ensures { λ r. ⌜ r ≡ onlyAt sw (now (text .entry)) from want ⌝ }
+{
+    match token_from(sw, text, from) {
+        Ahead::Token(token) => {
+            if is_mark(token, want) {
+                return Only::At(token.stop);
+            }
+            let place = token.start;
+            Only::Not(Refusal { number: 7, place })
+        }
+        Ahead::Refused(refusal) => Only::Not(refusal),
+    }
+}
+
+// The token after this mark, which has to come next.
+pub(crate) fn token_after(sw: Switches, text: &[u8], from: usize, want: u8) -> Ahead
+    ensures { λ r. ⌜ r ≡ aheadAfter sw (now (text .entry)) from want ⌝ }
+{
+    match one_mark(sw, text, from, want) {
+        Only::At(stop) => token_from(sw, text, stop),
+        Only::Not(refusal) => Ahead::Refused(refusal),
+    }
+}
+
+// ---- containers
 
 fn closer_of(kind: Kind) -> u8
     ensures { λ r. ⌜ r ≡ closerByte kind ⌝ }
@@ -94,29 +155,12 @@ fn lone_comma(sw: Switches, kind: Kind) -> bool
     }
 }
 
-// The next token, which has to be this mark.
-pub fn one_mark(sw: Switches, text: &[u8], from: usize, want: u8) -> Only
-    requires { ⌜ from ≤ length (now text) ⌝ }
-    ensures { λ r. ⌜ OnlyOne sw (now (text .entry)) from want r ⌝ }
+// Whether a token, the comma of `[,`, makes the container empty.
+fn opens_empty(sw: Switches, kind: Kind, count: usize, token: Token) -> bool
+    ensures { λ r. ⌜ r ≡ (eqb count 0 && (markIs (token .kind) 44 && emptyByComma sw kind)) ⌝ }
 {
-    match next_token(sw, text, from) {
-        Next::Token { kind, start, end } => {
-            if is_mark(kind, want) {
-                return Only::At(end);
-            }
-            Only::Not(7, start)
-        }
-        Next::End(place) => Only::Not(7, place),
-        Next::Fault { number, place } => Only::Not(number, place),
-    }
-}
-
-// Whether this token, the comma of `[,`, makes the container empty.
-fn opens_empty(sw: Switches, kind: Kind, children: usize, k: TokenKind) -> bool
-    ensures { λ r. ⌜ r ≡ (eqb children 0 && (markIs k 44 && emptyByComma sw kind)) ⌝ }
-{
-    if children == 0 {
-        if is_mark(k, b',') {
+    if count == 0 {
+        if is_mark(token, b',') {
             return lone_comma(sw, kind);
         }
         return false;
@@ -124,140 +168,103 @@ fn opens_empty(sw: Switches, kind: Kind, children: usize, k: TokenKind) -> bool
     false
 }
 
-// A value's first token, or the end, of an array or a tuple that has so many children.
-fn next_element(
-    sw: Switches,
-    text: &[u8],
-    table: &[u32],
-    kind: Kind,
-    from: usize,
-    first: usize,
-    m: usize,
-    children: usize,
-) -> Item
-    requires { ⌜ Look sw (now text) kind (now table) from first m ⌝ }
+// A child's first token, or the end, of an array or a tuple that has so many children.
+fn next_element(sw: Switches, text: &[u8], kind: Kind, count: usize, from: usize) -> Item
+    requires { ⌜ from ≤ length (now text) ⌝ }
     requires { ⌜ isObject kind ≡ false ⌝ }
-    ensures { λ r. ⌜ ItemAt sw (now (text .entry)) kind (now (table .entry)) from first m children r ⌝ }
+    ensures { λ r. ⌜ ElementAt sw (now (text .entry)) kind count from r ⌝ }
 {
     let closer = closer_of(kind);
-    match next_token(sw, text, from) {
-        Next::Token {
-            kind: k,
-            start,
-            end,
-        } => {
-            if is_mark(k, closer) {
-                return Item::Last(end);
+    match token_from(sw, text, from) {
+        Ahead::Token(token) => {
+            if is_mark(token, closer) {
+                return Item::Last(token.stop);
             }
-            if opens_empty(sw, kind, children, k) {
-                return match one_mark(sw, text, end, closer) {
-                    Only::At(j) => Item::Last(j),
-                    Only::Not(number, place) => Item::Wrong(number, place),
+            if opens_empty(sw, kind, count, token) {
+                return match one_mark(sw, text, token.stop, closer) {
+                    Only::At(stop) => Item::Last(stop),
+                    Only::Not(refusal) => Item::Wrong(refusal),
                 };
             }
             Item::Value {
-                kind: k,
-                start,
-                stop: end,
-                key: 0,
-                keyend: 0,
+                token,
+                key: Span { start: 0, stop: 0 },
             }
         }
-        Next::End(place) => Item::Wrong(7, place),
-        Next::Fault { number, place } => Item::Wrong(number, place),
+        Ahead::Refused(refusal) => Item::Wrong(refusal),
     }
 }
 
-// After the key from `start` to `stop`: its colon, and its value's first token.
-fn after_key(sw: Switches, text: &[u8], start: usize, stop: usize) -> Item
-    requires { ⌜ stop ≤ length (now text) ⌝ }
-    ensures { λ r. ⌜ AfterKey sw (now (text .entry)) start stop r ⌝ }
+// After a key: its colon, and its value's first token.
+fn after_key(sw: Switches, text: &[u8], key: Span) -> Item
+    ensures { λ r. ⌜ r ≡ keyedItem key (aheadAfter sw (now (text .entry)) (key .stop) 58) ⌝ }
 {
-    match one_mark(sw, text, stop, b':') {
-        Only::Not(number, place) => Item::Wrong(number, place),
-        Only::At(e) => match next_token(sw, text, e) {
-            Next::Token {
-                kind: k,
-                start: p,
-                end: q,
-            } => Item::Value {
-                kind: k,
-                start: p,
-                stop: q,
-                key: start,
-                keyend: stop,
-            },
-            Next::End(place) => Item::Wrong(7, place),
-            Next::Fault { number, place } => Item::Wrong(number, place),
-        },
+    match token_after(sw, text, key.stop, b':') {
+        Ahead::Token(token) => Item::Value { token, key },
+        Ahead::Refused(refusal) => Item::Wrong(refusal),
     }
 }
 
-// A key with its value's first token, or the end, of an object whose children are the nodes from `first` to before m.
-fn next_field(sw: Switches, text: &[u8], table: &[u32], from: usize, first: usize, m: usize) -> Item
-    requires { ⌜ Look sw (now text) Kind.Object (now table) from first m ⌝ }
-    ensures { λ r. ⌜ FieldAt sw (now (text .entry)) (now (table .entry)) from first m r ⌝ }
+// A key with its value's first token, or the end, of an object with these children.
+fn next_field(sw: Switches, text: &[u8], table: &[u32], children: Children, from: usize) -> Item
+    requires { ⌜ Look sw (now text) Kind.Object (now table) children from ⌝ }
+    ensures { λ r. ⌜ ItemAt sw (now (text .entry)) Kind.Object (now (table .entry)) children from r ⌝ }
 {
-    match next_token(sw, text, from) {
-        Next::Token { kind, start, end } => {
-            if is_mark(kind, b'}') {
-                return Item::Last(end);
+    match token_from(sw, text, from) {
+        Ahead::Token(token) => {
+            if is_mark(token, b'}') {
+                return Item::Last(token.stop);
             }
-            if is_key(kind) {
-                if find_key(sw, text, table, first, m, start, end) {
-                    return Item::Wrong(8, start);
+            let place = token.start;
+            if is_key(token) {
+                let stop = token.stop;
+                let key = Span { start: place, stop };
+                if find_key(sw, text, table, children, key) {
+                    return Item::Wrong(Refusal { number: 8, place });
                 }
-                return after_key(sw, text, start, end);
+                return after_key(sw, text, key);
             }
-            Item::Wrong(7, start)
+            Item::Wrong(Refusal { number: 7, place })
         }
-        Next::End(place) => Item::Wrong(7, place),
-        Next::Fault { number, place } => Item::Wrong(number, place),
+        Ahead::Refused(refusal) => Item::Wrong(refusal),
     }
 }
 
-// A child's first token, or the end.
-pub fn next_item(
+// A child's first token, or the end, of a container with these children.
+pub(crate) fn next_item(
     sw: Switches,
     text: &[u8],
     table: &[u32],
     kind: Kind,
+    children: Children,
     from: usize,
-    first: usize,
-    m: usize,
-    children: usize,
 ) -> Item
-    requires { ⌜ Look sw (now text) kind (now table) from first m ⌝ }
-    ensures { λ r. ⌜ ItemAt sw (now (text .entry)) kind (now (table .entry)) from first m children r ⌝ }
+    requires { ⌜ Look sw (now text) kind (now table) children from ⌝ }
+    ensures { λ r. ⌜ ItemAt sw (now (text .entry)) kind (now (table .entry)) children from r ⌝ }
 {
     match kind {
-        Kind::Object => next_field(sw, text, table, from, first, m),
-        Kind::Array => next_element(sw, text, table, kind, from, first, m, children),
-        Kind::Tuple => next_element(sw, text, table, kind, from, first, m, children),
+        Kind::Object => next_field(sw, text, table, children, from),
+        Kind::Array => next_element(sw, text, kind, children.count, from),
+        Kind::Tuple => next_element(sw, text, kind, children.count, from),
     }
 }
 
 // What follows a child.
-pub fn after_item(sw: Switches, text: &[u8], kind: Kind, from: usize) -> After
-    requires { ⌜ from ≤ length (now text) ⌝ }
-    ensures { λ r. ⌜ NextAt sw (now (text .entry)) kind from r ⌝ }
+pub(crate) fn after_item(sw: Switches, text: &[u8], kind: Kind, from: usize) -> After
+    ensures { λ r. ⌜ r ≡ followsAt sw (now (text .entry)) kind from ⌝ }
 {
     let closer = closer_of(kind);
-    match next_token(sw, text, from) {
-        Next::Token {
-            kind: k,
-            start,
-            end,
-        } => {
-            if is_mark(k, closer) {
-                return After::Over(end);
+    match token_from(sw, text, from) {
+        Ahead::Token(token) => {
+            if is_mark(token, closer) {
+                return After::Over(token.stop);
             }
-            if is_mark(k, b',') {
-                return After::More(end);
+            if is_mark(token, b',') {
+                return After::More(token.stop);
             }
-            After::Off(7, start)
+            let place = token.start;
+            After::Off(Refusal { number: 7, place })
         }
-        Next::End(place) => After::Off(7, place),
-        Next::Fault { number, place } => After::Off(number, place),
+        Ahead::Refused(refusal) => After::Off(refusal),
     }
 }

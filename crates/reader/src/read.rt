@@ -1,15 +1,21 @@
 // The reading of a text into a table, and one value alone.
 ghost use mathlib.Core.Path.{_≡_};
-ghost use mathlib.Core.Bool.{true};
-ghost use Prim.Native.Nat.{_≤_, _*_};
+ghost use Prim.Native.Nat.{_≤_};
 ghost use lib.ListN.{length};
 ghost use Rattle.text.specs.Switches.{presentEdition};
 ghost use Rattle.reader.specs.Reading.{reading, tableOf, answerOf, nodeLimit, oneValue};
-ghost use Rattle.reader.specs.Internal.Values.{Fit};
-ghost use Rattle.reader.specs.Internal.Whole.{WholeAt, JudgedAt};
+ghost use Rattle.reader.specs.Internal.Values.{Roomy};
+ghost use Rattle.reader.specs.Internal.Whole.{aloneAt, WholeAt, JudgedAt};
+use super::items::Ahead;
+use super::items::token_from;
 use super::rows::clear;
 use super::tree::Limits;
+use super::tree::Refusal;
+use super::tree::Rules;
+use super::tree::Span;
+use super::tree::Spot;
 use super::values::Answer;
+use super::values::fresh_due;
 use super::values::read_value;
 use lexer::item::Next;
 use lexer::item::next_token;
@@ -17,14 +23,14 @@ use text::switches::Switches;
 use text::switches::present;
 use text::utf8::valid_front;
 
-// A text was read as one value, from `start` to `stop`, with so many nodes; or a refusal with its place.
+// A text was read as one value, from `start` to `stop`, with so many nodes; or a refusal.
 pub enum Whole {
     Done {
         start: usize,
         stop: usize,
         nodes: usize,
     },
-    Refused(u8, usize),
+    Refused(Refusal),
 }
 
 // What reading a text answers: the node count, or a refusal by document 01's number with its place.
@@ -33,63 +39,63 @@ pub enum Reading {
     Refused(u8, usize),
 }
 
-// The one value of a text, and nothing after it. `any`: a value of every kind, or else a root.
-fn read_whole(sw: Switches, limits: Limits, text: &[u8], table: &mut [u32], any: bool) -> Whole
-    requires { ⌜ Fit (now text) (now table) limits true 0 ⌝ }
-    ensures { λ r. ⌜ WholeAt sw limits any (now (text .entry)) (now (table .entry)) (now (table .exit)) r ⌝ }
+// Nothing after a value that was read to its end, `stop`.
+fn only_value(sw: Switches, text: &[u8], start: usize, stop: usize, nodes: usize) -> Whole
+    ensures { λ r. ⌜ r ≡ aloneAt sw (now (text .entry)) start stop nodes ⌝ }
 {
-    match next_token(sw, text, 0) {
-        Next::Token { kind, start, end } => match read_value(
-            sw,
-            limits,
-            text,
-            table,
-            any,
-            kind,
-            start,
-            end,
-            0,
-            0,
-            0,
-            0,
-            4294967295,
-        ) {
-            Answer::Refused(number, place) => Whole::Refused(number, place),
-            Answer::Done(j, m) => match next_token(sw, text, j) {
-                Next::End(_) => Whole::Done {
-                    start,
-                    stop: j,
-                    nodes: m,
-                },
-                Next::Token {
-                    kind: _,
-                    start: p,
-                    end: _,
-                } => Whole::Refused(7, p),
-                Next::Fault {
-                    number: f,
-                    place: p,
-                } => Whole::Refused(f, p),
-            },
-        },
-        Next::End(place) => Whole::Refused(7, place),
-        Next::Fault { number, place } => Whole::Refused(number, place),
+    match next_token(sw, text, stop) {
+        Next::End(_) => Whole::Done { start, stop, nodes },
+        Next::Token {
+            kind: _,
+            start: place,
+            end: _,
+        } => Whole::Refused(Refusal { number: 7, place }),
+        Next::Fault { number, place } => Whole::Refused(Refusal { number, place }),
+    }
+}
+
+// The one value of a text, and nothing after it. `any`: a value of every kind, or else a root.
+fn read_whole(rules: Rules, text: &[u8], table: &mut [u32], any: bool) -> Whole
+    requires { ⌜ Roomy (rules .limits) (now table) ⌝ }
+    requires { ⌜ length (now text) ≤ 65536 ⌝ }
+    ensures { λ r. ⌜ WholeAt rules any (now (text .entry)) (now (table .entry)) (now (table .exit)) r ⌝ }
+{
+    match token_from(rules.sw, text, 0) {
+        Ahead::Token(token) => {
+            let spot = Spot {
+                node: 0,
+                depth: 0,
+                parent: 4294967295,
+            };
+            let due = fresh_due(any, token.start, Span { start: 0, stop: 0 }, spot);
+            match read_value(rules, text, table, due, token) {
+                Answer::Refused(refusal) => Whole::Refused(refusal),
+                Answer::Done(stop, nodes) => only_value(rules.sw, text, token.start, stop, nodes),
+            }
+        }
+        Ahead::Refused(refusal) => Whole::Refused(refusal),
     }
 }
 
 // The text is judged: its length, then its UTF-8, then its one value.
-fn judge(sw: Switches, limits: Limits, text: &[u8], table: &mut [u32], any: bool) -> Whole
-    requires { ⌜ (12 * limits .nodes ≤ length (now table)) × (limits .nodes ≤ 4096) ⌝ }
-    ensures { λ r. ⌜ JudgedAt sw limits any (now (text .entry)) (now (table .entry)) (now (table .exit)) r ⌝ }
+fn judge(rules: Rules, text: &[u8], table: &mut [u32], any: bool) -> Whole
+    requires { ⌜ Roomy (rules .limits) (now table) ⌝ }
+    ensures { λ r. ⌜ JudgedAt rules any (now (text .entry)) (now (table .entry)) (now (table .exit)) r ⌝ }
 {
     if 65536 < text.len() {
-        return Whole::Refused(1, 65536);
+        return Whole::Refused(Refusal {
+            number: 1,
+            place: 65536,
+        });
     }
     let front = valid_front(text);
     if front < text.len() {
-        return Whole::Refused(2, front);
+        return Whole::Refused(Refusal {
+            number: 2,
+            place: front,
+        });
     }
-    read_whole(sw, limits, text, table, any)
+    read_whole(rules, text, table, any)
 }
 
 // The nodes that a table of so many words has room for: at most 4,096.
@@ -112,15 +118,15 @@ pub fn read_edition(sw: Switches, text: &[u8], table: &mut [u32]) -> Reading
         depth: 32,
         nodes: node_limit(table.len()),
     };
-    match judge(sw, limits, text, table, false) {
+    match judge(Rules { sw, limits }, text, table, false) {
         Whole::Done {
             start: _,
             stop: _,
             nodes,
         } => Reading::Taken(nodes),
-        Whole::Refused(number, place) => {
+        Whole::Refused(refusal) => {
             clear(table);
-            Reading::Refused(number, place)
+            Reading::Refused(refusal.number, refusal.place)
         }
     }
 }
@@ -141,7 +147,7 @@ pub fn one_value(sw: Switches, any: bool, text: &[u8]) -> bool
         depth: 32,
         nodes: 4096,
     };
-    match judge(sw, limits, text, &mut table, any) {
+    match judge(Rules { sw, limits }, text, &mut table, any) {
         Whole::Done {
             start,
             stop,
@@ -152,6 +158,6 @@ pub fn one_value(sw: Switches, any: bool, text: &[u8]) -> bool
             }
             false
         }
-        Whole::Refused(_, _) => false,
+        Whole::Refused(_) => false,
     }
 }

@@ -4,51 +4,42 @@ ghost use Prim.Native.Nat.{_≤_, _<_, _+_, _*_};
 ghost use lib.ListN.{length, getD, set, replicate};
 ghost use lib.Seq.{sets};
 ghost use Rattle.reader.specs.Tree.{kindNumber};
-ghost use Rattle.reader.specs.Internal.Values.{rowWords};
+ghost use Rattle.reader.specs.Internal.Values.{rowOf, RowRoom};
+use super::tree::Due;
 use super::tree::Kind;
-use super::tree::Spans;
+use super::tree::Words;
 
-// Writes the twelve words of node n.
-pub fn put_row(
-    table: &mut [u32],
-    n: usize,
-    kind: u32,
-    parent: u32,
-    spans: Spans,
-    stop: u32,
-    next: u32,
-    a: u32,
-    b: u32,
-    c: u32,
-)
-    requires { ⌜ 12 * n + 12 ≤ length (now table) ⌝ }
-    ensures { λ _. ⌜ now (table .exit) ≡ sets (now (table .entry)) (12 * n) (rowWords kind parent spans stop next a b c) ⌝ }
+// Writes the twelve words of a node whose value ends at `stop`; the next node that is not below it is `next`.
+pub(crate) fn put_row(table: &mut [u32], due: Due, words: Words, stop: usize, next: usize)
+    requires { ⌜ RowRoom (now table) due stop next ⌝ }
+    ensures { λ _. ⌜ now (table .exit) ≡ sets (now (table .entry)) (12 * due .spot .node) (rowOf due words stop next) ⌝ }
 {
-    let i = 12 * n;
-    table[i] = kind;
-    table[i + 1] = parent;
-    table[i + 2] = spans.start;
-    table[i + 3] = stop;
-    table[i + 4] = spans.key;
-    table[i + 5] = spans.keyend;
-    table[i + 6] = spans.name;
-    table[i + 7] = spans.nameend;
-    table[i + 8] = next;
-    table[i + 9] = a;
-    table[i + 10] = b;
-    table[i + 11] = c;
+    let label = due.label;
+    let i = 12 * due.spot.node;
+    table[i] = words.kind;
+    table[i + 1] = due.spot.parent;
+    table[i + 2] = label.start as u32;
+    table[i + 3] = stop as u32;
+    table[i + 4] = label.key.start as u32;
+    table[i + 5] = label.key.stop as u32;
+    table[i + 6] = label.name.start as u32;
+    table[i + 7] = label.name.stop as u32;
+    table[i + 8] = next as u32;
+    table[i + 9] = words.a;
+    table[i + 10] = words.b;
+    table[i + 11] = words.c;
 }
 
-// Writes word 3 of node n anew: the end of its identifier's bracket.
-pub fn put_stop(table: &mut [u32], n: usize, stop: u32)
-    requires { ⌜ 12 * n + 12 ≤ length (now table) ⌝ }
-    ensures { λ _. ⌜ now (table .exit) ≡ set (now (table .entry)) (12 * n + 3) stop ⌝ }
+// Writes word 3 of a node anew: the end of its identifier's bracket.
+pub(crate) fn put_stop(table: &mut [u32], node: usize, stop: u32)
+    requires { ⌜ 12 * node + 12 ≤ length (now table) ⌝ }
+    ensures { λ _. ⌜ now (table .exit) ≡ set (now (table .entry)) (12 * node + 3) stop ⌝ }
 {
-    table[12 * n + 3] = stop;
+    table[12 * node + 3] = stop;
 }
 
 // Word 0 of a container.
-pub fn kind_word(kind: Kind) -> u32
+pub(crate) fn kind_word(kind: Kind) -> u32
     ensures { λ r. ⌜ r ≡ kindNumber kind ⌝ }
 {
     match kind {

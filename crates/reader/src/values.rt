@@ -1,394 +1,254 @@
 // Values, containers and identifiers: readers that call each other in a cycle; the bytes left in the text fall.
 ghost use mathlib.Core.Path.{_≡_};
-ghost use mathlib.Core.Bool.{true, false, _&&_};
+ghost use mathlib.Core.Bool.{true, _&&_};
 ghost use lib.Dec.{leb};
-ghost use mathlib.Core.Option.{none};
-ghost use Prim.Native.Nat.{_≤_, _+_, suc};
+ghost use Prim.Native.Nat.{_≤_, _<_, _*_};
 ghost use lib.ListN.{length};
-ghost use Rattle.reader.specs.Syntax.{
-  label,
-  begins,
-  container,
-  identifier,
-  spanOf,
-  inner,
-  config,
-};
-ghost use Rattle.reader.specs.Internal.Tokens.{formAt, tokenAt, TokenAt, LeafIs};
+ghost use lib.Seq.{sets};
+ghost use Rattle.reader.specs.Syntax.{container, identifier};
+ghost use Rattle.reader.specs.Internal.Tokens.{IsToken, beginsAt};
 ghost use Rattle.reader.specs.Internal.Values.{
-  spanAt,
-  labelOf,
-  Sane,
-  runFrom,
-  opened,
-  openedHere,
-  Fit,
+  freshDue,
+  childSpot,
+  namedDue,
+  rowOf,
+  branchWords,
+  RowRoom,
+  leafAnswer,
+  leafTable,
+  Ready,
   Placed,
-  KeySpan,
-  Ran,
+  ReadAs,
 };
 use super::begin::begin_of;
 use super::items::After;
+use super::items::Ahead;
 use super::items::Item;
 use super::items::Only;
 use super::items::after_item;
 use super::items::next_item;
 use super::items::one_mark;
+use super::items::token_after;
 use super::rows::kind_word;
 use super::rows::put_row;
 use super::rows::put_stop;
 use super::tree::Begin;
+use super::tree::Children;
+use super::tree::Due;
 use super::tree::Kind;
-use super::tree::Leaf;
+use super::tree::Label;
 use super::tree::Limits;
-use super::tree::Spans;
-use lexer::item::Next;
-use lexer::item::TokenKind;
-use lexer::item::next_token;
-use text::switches::Switches;
+use super::tree::Refusal;
+use super::tree::Rules;
+use super::tree::Span;
+use super::tree::Spot;
+use super::tree::Token;
+use super::tree::Words;
 
-// A value was read: the place after it, and the number of nodes then; or a refusal with its place.
+// A value was read: the place after it, and the number of nodes then; or a refusal.
 pub enum Answer {
     Done(usize, usize),
-    Refused(u8, usize),
+    Refused(Refusal),
 }
 
-// Whether a value that begins now has no node left; one whose identifier was counted has its node.
-fn is_full(limits: Limits, fresh: bool, n: usize) -> bool
-    ensures { λ r. ⌜ r ≡ (fresh && leb (limits .nodes) n) ⌝ }
+// ---- what is due
+
+// A value that begins at `start`, with no identifier so far.
+pub(crate) fn fresh_due(any: bool, start: usize, key: Span, spot: Spot) -> Due
+    ensures { λ r. ⌜ r ≡ freshDue any start key spot ⌝ }
 {
-    if fresh {
-        return limits.nodes <= n;
+    let name = Span { start: 0, stop: 0 };
+    let label = Label { start, key, name };
+    Due {
+        any,
+        fresh: true,
+        label,
+        spot,
+    }
+}
+
+// A child of the value at this spot, as this node.
+fn child_due(spot: Spot, node: usize, start: usize, key: Span) -> Due
+    requires { ⌜ (spot .depth < 18446744073709551615) × (spot .node < 4294967296) ⌝ }
+    ensures { λ r. ⌜ r ≡ freshDue true start key (childSpot spot node) ⌝ }
+{
+    let own = Spot {
+        node,
+        depth: spot.depth + 1,
+        parent: spot.node as u32,
+    };
+    fresh_due(true, start, key, own)
+}
+
+// The value in the bracket of the identifier with this name.
+fn named_due(due: Due, token: Token) -> Due
+    ensures { λ r. ⌜ r ≡ namedDue due (token .start) (token .stop) ⌝ }
+{
+    let key = due.label.key;
+    let name = Span {
+        start: token.start,
+        stop: token.stop,
+    };
+    let label = Label {
+        start: due.label.start,
+        key,
+        name,
+    };
+    let spot = due.spot;
+    Due {
+        any: due.any,
+        fresh: false,
+        label,
+        spot,
+    }
+}
+
+// Whether a value that is due has no node left; one whose identifier was counted has its node.
+fn is_full(limits: Limits, due: Due) -> bool
+    ensures { λ r. ⌜ r ≡ (due .fresh && leb (limits .nodes) (due .spot .node)) ⌝ }
+{
+    if due.fresh {
+        return limits.nodes <= due.spot.node;
     }
     false
 }
 
-// A value that holds no others, whose token stands from `start` to `stop`, as node n. `fresh`: it has no identifier, so its node has
-// not been counted. `any`: a value of every kind may stand here.
-fn put_leaf(
-    sw: Switches,
-    limits: Limits,
-    text: &[u8],
-    table: &mut [u32],
-    leaf: Leaf,
-    start: usize,
-    stop: usize,
-    fresh: bool,
-    any: bool,
-    spans: Spans,
-    n: usize,
-    depth: usize,
-    parent: u32,
-) -> Answer
-    requires { ⌜ Fit (now text) (now table) limits fresh n ⌝ }
-    requires { ⌜ Placed (now text) start stop ⌝ }
-    requires { ⌜ LeafIs sw (now text) start stop leaf ⌝ }
-    requires { ⌜ Sane spans ⌝ }
-    ensures { λ r. ⌜ Ran sw limits (now (text .entry)) (opened sw limits (now (text .entry)) start stop fresh any (labelOf spans) n (begins (spanOf (tokenAt sw (now (text .entry)) start stop)) (formAt sw (now (text .entry)) start))) (labelOf spans) (labelOf spans .name) start depth parent n (now (table .entry)) (now (table .exit)) r ⌝ }
+// ---- rows
+
+// A value that holds no others, with its own words.
+fn put_leaf(limits: Limits, table: &mut [u32], due: Due, token: Token, words: Words) -> Answer
+    requires { ⌜ Ready limits (now table) due ⌝ }
+    requires { ⌜ token .stop ≤ 65536 ⌝ }
+    ensures { λ r. ⌜ r ≡ leafAnswer limits due token ⌝ }
+    ensures { λ _. ⌜ now (table .exit) ≡ leafTable limits due token words (now (table .entry)) ⌝ }
 {
-    if any {
-        if is_full(limits, fresh, n) {
-            return Answer::Refused(10, start);
+    let place = token.start;
+    if due.any {
+        if is_full(limits, due) {
+            return Answer::Refused(Refusal { number: 10, place });
         }
-        let next = n + 1;
-        put_row(
-            table,
-            n,
-            leaf.kind,
-            parent,
-            spans,
-            stop as u32,
-            next as u32,
-            leaf.a,
-            leaf.b,
-            leaf.c,
-        );
-        return Answer::Done(stop, next);
+        let next = due.spot.node + 1;
+        put_row(table, due, words, token.stop, next);
+        return Answer::Done(token.stop, next);
     }
-    Answer::Refused(7, start)
+    Answer::Refused(Refusal { number: 7, place })
 }
 
-// The value that the token from `start` to `stop` opens, as node n; its key stands from `key` to `keyend`.
-pub fn read_value(
-    sw: Switches,
-    limits: Limits,
-    text: &[u8],
-    table: &mut [u32],
-    any: bool,
-    kind: TokenKind,
-    start: usize,
-    stop: usize,
-    key: usize,
-    keyend: usize,
-    n: usize,
-    depth: usize,
-    parent: u32,
-) -> Answer
-    requires { ⌜ Fit (now text) (now table) limits true n ⌝ }
-    requires { ⌜ TokenAt sw (now text) kind start stop ⌝ }
-    requires { ⌜ KeySpan key keyend ⌝ }
-    ensures { λ r. ⌜ Ran sw limits (now (text .entry)) (openedHere sw limits (now (text .entry)) start stop any (spanAt key keyend) n) (label start (spanAt key keyend) none) none start depth parent n (now (table .entry)) (now (table .exit)) r ⌝ }
+// A container that ends at `stop`, with all its children.
+fn put_branch(table: &mut [u32], due: Due, kind: Kind, children: Children, stop: usize) -> Answer
+    requires { ⌜ RowRoom (now table) due stop (children .next) ⌝ }
+    requires { ⌜ children .count ≤ children .next ⌝ }
+    ensures { λ r. ⌜ r ≡ Answer.Done stop (children .next) ⌝ }
+    ensures { λ _. ⌜ now (table .exit) ≡ sets (now (table .entry)) (12 * due .spot .node) (rowOf due (branchWords kind (children .count)) stop (children .next)) ⌝ }
 {
-    let spans = Spans {
-        start: start as u32,
-        key: key as u32,
-        keyend: keyend as u32,
-        name: 0,
-        nameend: 0,
+    let words = Words {
+        kind: kind_word(kind),
+        a: children.count as u32,
+        b: 0,
+        c: 0,
     };
-    match begin_of(sw, text, kind, start, stop) {
-        Begin::Container(k) => read_container(
-            sw,
-            limits,
-            text,
-            table,
-            k,
-            start,
-            stop,
-            true,
-            spans,
-            n,
-            depth,
-            parent,
-        ),
-        Begin::Scalar(leaf) => put_leaf(
-            sw,
-            limits,
-            text,
-            table,
-            leaf,
-            start,
-            stop,
-            true,
-            any,
-            spans,
-            n,
-            depth,
-            parent,
-        ),
-        Begin::Identifier => read_identifier(
-            sw,
-            limits,
-            text,
-            table,
-            any,
-            start,
-            stop,
-            spans,
-            n,
-            depth,
-            parent,
-        ),
-        Begin::Nothing => Answer::Refused(7, start),
+    put_row(table, due, words, stop, children.next);
+    Answer::Done(stop, children.next)
+}
+
+// ---- the cycle
+
+// The value that is due, by its first token.
+pub(crate) fn read_value(
+    rules: Rules,
+    text: &[u8],
+    table: &mut [u32],
+    due: Due,
+    token: Token,
+) -> Answer
+    requires { ⌜ Ready (rules .limits) (now table) due ⌝ }
+    requires { ⌜ IsToken (rules .sw) (now text) token ⌝ }
+    requires { ⌜ length (now text) ≤ 65536 ⌝ }
+    ensures { λ r. ⌜ ReadAs rules (now (text .entry)) due token (beginsAt (rules .sw) (now (text .entry)) token) (now (table .entry)) (now (table .exit)) r ⌝ }
+{
+    let place = token.start;
+    match begin_of(rules.sw, text, token) {
+        Begin::Container(kind) => read_container(rules, text, table, due, kind, token),
+        Begin::Scalar(words) => put_leaf(rules.limits, table, due, token, words),
+        Begin::Identifier => read_identifier(rules, text, table, due, token),
+        Begin::Nothing => Answer::Refused(Refusal { number: 7, place }),
     }
 }
 
-// The object, array or tuple whose bracket stands from `start` to `stop`, as node n.
+// The object, array or tuple that this bracket opens.
 fn read_container(
-    sw: Switches,
-    limits: Limits,
+    rules: Rules,
     text: &[u8],
     table: &mut [u32],
+    due: Due,
     kind: Kind,
-    start: usize,
-    stop: usize,
-    fresh: bool,
-    spans: Spans,
-    n: usize,
-    depth: usize,
-    parent: u32,
+    bracket: Token,
 ) -> Answer
-    requires { ⌜ Fit (now text) (now table) limits fresh n ⌝ }
-    requires { ⌜ Placed (now text) start stop ⌝ }
-    requires { ⌜ Sane spans ⌝ }
-    ensures { λ r. ⌜ Ran sw limits (now (text .entry)) (opened sw limits (now (text .entry)) start stop fresh true (labelOf spans) n (container kind)) (labelOf spans) (labelOf spans .name) start depth parent n (now (table .entry)) (now (table .exit)) r ⌝ }
+    requires { ⌜ Ready (rules .limits) (now table) due ⌝ }
+    requires { ⌜ Placed (now text) bracket ⌝ }
+    ensures { λ r. ⌜ ReadAs rules (now (text .entry)) due bracket (container kind) (now (table .entry)) (now (table .exit)) r ⌝ }
 {
-    if limits.depth <= depth {
-        return Answer::Refused(9, start);
+    let place = bracket.start;
+    let spot = due.spot;
+    if rules.limits.depth <= spot.depth {
+        return Answer::Refused(Refusal { number: 9, place });
     }
-    if is_full(limits, fresh, n) {
-        return Answer::Refused(10, start);
+    if is_full(rules.limits, due) {
+        return Answer::Refused(Refusal { number: 10, place });
     }
-    let me = n as u32;
-    let first = n + 1;
-    let mut i = stop;
-    let mut m = n + 1;
-    let mut z: usize = 0;
+    let first = spot.node + 1;
+    let mut from = bracket.stop;
+    let mut children = Children {
+        first,
+        next: first,
+        count: 0,
+    };
     loop {
-        match next_item(sw, text, table, kind, i, first, m, z) {
-            Item::Wrong(f, p) => {
-                return Answer::Refused(f, p);
-            }
-            Item::Last(j) => {
-                put_row(
-                    table,
-                    n,
-                    kind_word(kind),
-                    parent,
-                    spans,
-                    j as u32,
-                    m as u32,
-                    z as u32,
-                    0,
-                    0,
-                );
-                return Answer::Done(j, m);
-            }
-            Item::Value {
-                kind: k,
-                start: p,
-                stop: e,
-                key: a,
-                keyend: b,
-            } => match read_value(
-                sw,
-                limits,
-                text,
-                table,
-                true,
-                k,
-                p,
-                e,
-                a,
-                b,
-                m,
-                depth + 1,
-                me,
-            ) {
-                Answer::Refused(f, q) => {
-                    return Answer::Refused(f, q);
-                }
-                Answer::Done(j, w) => {
-                    m = w;
-                    z += 1;
-                    match after_item(sw, text, kind, j) {
-                        After::Off(f, q) => {
-                            return Answer::Refused(f, q);
-                        }
-                        After::Over(o) => {
-                            put_row(
-                                table,
-                                n,
-                                kind_word(kind),
-                                parent,
-                                spans,
-                                o as u32,
-                                m as u32,
-                                z as u32,
-                                0,
-                                0,
-                            );
-                            return Answer::Done(o, m);
-                        }
-                        After::More(o) => {
-                            i = o;
+        match next_item(rules.sw, text, table, kind, children, from) {
+            Item::Wrong(refusal) => return Answer::Refused(refusal),
+            Item::Last(end) => return put_branch(table, due, kind, children, end),
+            Item::Value { token, key } => {
+                let child = child_due(spot, children.next, token.start, key);
+                match read_value(rules, text, table, child, token) {
+                    Answer::Refused(refusal) => return Answer::Refused(refusal),
+                    Answer::Done(stop, next) => {
+                        children.next = next;
+                        children.count += 1;
+                        match after_item(rules.sw, text, kind, stop) {
+                            After::Off(refusal) => return Answer::Refused(refusal),
+                            After::Over(end) => return put_branch(table, due, kind, children, end),
+                            After::More(comma) => from = comma,
                         }
                     }
                 }
-            },
+            }
         }
     }
 }
 
-// The value in the brackets of an identifier, from `from` on, as node n.
-fn read_inner(
-    sw: Switches,
-    limits: Limits,
-    text: &[u8],
-    table: &mut [u32],
-    any: bool,
-    from: usize,
-    spans: Spans,
-    n: usize,
-    depth: usize,
-    parent: u32,
-) -> Answer
-    requires { ⌜ Fit (now text) (now table) limits false n ⌝ }
-    requires { ⌜ from ≤ length (now text) ⌝ }
-    requires { ⌜ Sane spans ⌝ }
-    ensures { λ r. ⌜ Ran sw limits (now (text .entry)) (λ stack. runFrom sw limits (now (text .entry)) from (config stack (inner any (labelOf spans)) (suc n))) (labelOf spans) (labelOf spans .name) from depth parent n (now (table .entry)) (now (table .exit)) r ⌝ }
+// The identifier with this name, and the value in its bracket.
+fn read_identifier(rules: Rules, text: &[u8], table: &mut [u32], due: Due, name: Token) -> Answer
+    requires { ⌜ Ready (rules .limits) (now table) due ⌝ }
+    requires { ⌜ Placed (now text) name ⌝ }
+    ensures { λ r. ⌜ ReadAs rules (now (text .entry)) due name identifier (now (table .entry)) (now (table .exit)) r ⌝ }
 {
-    match next_token(sw, text, from) {
-        Next::Token {
-            kind: k,
-            start,
-            end,
-        } => match begin_of(sw, text, k, start, end) {
-            Begin::Container(box_kind) => read_container(
-                sw,
-                limits,
-                text,
-                table,
-                box_kind,
-                start,
-                end,
-                false,
-                spans,
-                n,
-                depth,
-                parent,
-            ),
-            Begin::Scalar(leaf) => put_leaf(
-                sw,
-                limits,
-                text,
-                table,
-                leaf,
-                start,
-                end,
-                false,
-                any,
-                spans,
-                n,
-                depth,
-                parent,
-            ),
-            Begin::Identifier => Answer::Refused(7, start),
-            Begin::Nothing => Answer::Refused(7, start),
-        },
-        Next::End(place) => Answer::Refused(7, place),
-        Next::Fault { number, place } => Answer::Refused(number, place),
+    let place = name.start;
+    if !due.fresh {
+        return Answer::Refused(Refusal { number: 7, place });
     }
-}
-
-// The identifier whose name stands from `start` to `stop`, with its value as node n.
-fn read_identifier(
-    sw: Switches,
-    limits: Limits,
-    text: &[u8],
-    table: &mut [u32],
-    any: bool,
-    start: usize,
-    stop: usize,
-    spans: Spans,
-    n: usize,
-    depth: usize,
-    parent: u32,
-) -> Answer
-    requires { ⌜ Fit (now text) (now table) limits true n ⌝ }
-    requires { ⌜ Placed (now text) start stop ⌝ }
-    requires { ⌜ Sane spans ⌝ }
-    ensures { λ r. ⌜ Ran sw limits (now (text .entry)) (opened sw limits (now (text .entry)) start stop true any (labelOf spans) n identifier) (labelOf spans) none start depth parent n (now (table .entry)) (now (table .exit)) r ⌝ }
-{
-    if limits.nodes <= n {
-        return Answer::Refused(10, start);
+    if rules.limits.nodes <= due.spot.node {
+        return Answer::Refused(Refusal { number: 10, place });
     }
-    let named = Spans {
-        start: spans.start,
-        key: spans.key,
-        keyend: spans.keyend,
-        name: start as u32,
-        nameend: stop as u32,
-    };
-    match one_mark(sw, text, stop, b'(') {
-        Only::Not(f, p) => Answer::Refused(f, p),
-        Only::At(p) => match read_inner(sw, limits, text, table, any, p, named, n, depth, parent) {
-            Answer::Refused(f, q) => Answer::Refused(f, q),
-            Answer::Done(j, m) => match one_mark(sw, text, j, b')') {
-                Only::Not(f, q) => Answer::Refused(f, q),
-                Only::At(q) => {
-                    put_stop(table, n, q as u32);
-                    Answer::Done(q, m)
+    let inner = named_due(due, name);
+    match token_after(rules.sw, text, name.stop, b'(') {
+        Ahead::Refused(refusal) => Answer::Refused(refusal),
+        Ahead::Token(token) => match read_value(rules, text, table, inner, token) {
+            Answer::Refused(refusal) => Answer::Refused(refusal),
+            Answer::Done(stop, next) => match one_mark(rules.sw, text, stop, b')') {
+                Only::Not(refusal) => Answer::Refused(refusal),
+                Only::At(end) => {
+                    put_stop(table, due.spot.node, end as u32);
+                    Answer::Done(end, next)
                 }
             },
         },

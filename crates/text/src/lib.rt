@@ -1,4 +1,6 @@
-// Bytes and their classes, UTF-8, and the switches in which the editions of Duper differ.
+// Bytes and their classes, spans, refusals, UTF-8, and the switches in which the editions of Duper differ.
 pub mod bytes;
+pub mod refusal;
+pub mod span;
 pub mod switches;
 pub mod utf8;

@@ -14,11 +14,12 @@ use Rattle.lexer.specs.Token as L
 use Rattle.lexer.specs.Token.{Form, Item, Token, itemAt}
 use Rattle.lexer.specs.Answer.{kindOf}
 use Rattle.reader.specs.declared.tree.Kind.the-variants.{Object, Array, Tuple}
-use Rattle.reader.specs.declared.tree.Leaf.{Leaf}
+use Rattle.reader.specs.declared.tree.Token as CT
+use Rattle.reader.specs.declared.tree.Words.{Words}
 use Rattle.reader.specs.declared.tree.Begin.{Begin}
 use Rattle.reader.specs.declared.tree.Begin.the-variants as B
 use Rattle.reader.specs.Tree.{Scalar, trueValue, falseValue, nullValue, scalarNumber, scalarWords}
-use Rattle.reader.specs.Syntax.{begins, container, scalar, identifier, nothing, spanOf, opensWithCapital}
+use Rattle.reader.specs.Syntax.{Begins, begins, container, scalar, identifier, nothing, spanOf, opensWithCapital}
 
 -- an item's form; a mark 0 if it is no token
 unfoldable pub formOf : Item → Form
@@ -41,12 +42,20 @@ pub record TokenAt (sw : Switches) (s : List ℕ) (k : TokenKind) (start stop : 
   pub ordered : start < stop
   pub inside : stop ≤ length s
 
+-- the same of the code's token
+abbrev pub IsToken : Switches → List ℕ → CT.Token → Type 0
+IsToken sw s t = TokenAt sw s (t .kind) (t .start) (t .stop)
+
+-- what the code's token is the first of
+abbrev pub beginsAt : Switches → List ℕ → CT.Token → Begins
+beginsAt sw s t = begins (spanOf (tokenAt sw s (t .start) (t .stop))) (formAt sw s (t .start))
+
 -- a scalar's own words, as the code carries them
-unfoldable pub leafOf : Scalar → Leaf
+unfoldable pub leafOf : Scalar → Words
 leafOf s = record { kind = scalarNumber s; a = getD (scalarWords s) 0 0; b = getD (scalarWords s) 1 0; c = getD (scalarWords s) 2 0 }
 
 -- the token from `start` to `stop` is a scalar with these words
-pub record LeafIs (sw : Switches) (s : List ℕ) (start stop : ℕ) (leaf : Leaf) : Type 0 where
+pub record LeafIs (sw : Switches) (s : List ℕ) (start stop : ℕ) (leaf : Words) : Type 0 where
   pub value : Scalar
   pub is : begins (spanOf (tokenAt sw s start stop)) (formAt sw s start) ≡ scalar value
   pub words : leaf ≡ leafOf value

@@ -2,54 +2,87 @@
 -- The machine looks at a stack's length and top frame only, so each claim is made for every stack of the given depth.
 -- Assumes nothing.
 use Prim.Native.Nat.{ℕ, suc, _+_, _-_, _*_, _≤_, _<_}
-use Prim.Native.Char.{code}
 use mathlib.Core.Path.{_≡_}
-use mathlib.Core.Bool.{Bool, true, false, cond}
+use mathlib.Core.Bool.{Bool, true, false, cond, _&&_}
 use mathlib.Core.Option.{Option, none, some}
 use mathlib.Core.List.{List, [], _∷_, _++_}
-use lib.Dec.{eqb}
+use lib.Dec.{eqb, leb}
 use lib.ListN.{length, getD, take, drop}
 use lib.Seq.{sets}
 use Rattle.text.specs.declared.switches.Switches.{Switches}
 use Rattle.lexer.specs.declared.item.TokenKind.{TokenKind}
-use Rattle.lexer.specs.declared.item.TokenKind.the-variants as K
-use Rattle.lexer.specs.Token as L
-use Rattle.lexer.specs.Token.{Token, tokensFrom, tokenContent}
+use Rattle.lexer.specs.Token.{tokensFrom, tokenContent}
 use Rattle.reader.specs.declared.tree.Kind.{Kind}
-use Rattle.reader.specs.declared.tree.Kind.the-variants.{Object}
 use Rattle.reader.specs.declared.tree.Limits.{Limits}
-use Rattle.reader.specs.declared.tree.Spans.{Spans}
-use Rattle.reader.specs.declared.items.Only.{Only}
-use Rattle.reader.specs.declared.items.Only.the-variants as O
+use Rattle.reader.specs.declared.tree.Rules.{Rules}
+use Rattle.reader.specs.declared.tree.Span as CS
+use Rattle.reader.specs.declared.tree.Token as CT
+use Rattle.reader.specs.declared.tree.Label as CL
+use Rattle.reader.specs.declared.tree.Spot.{Spot}
+use Rattle.reader.specs.declared.tree.Due.{Due}
+use Rattle.reader.specs.declared.tree.Children.{Children}
+use Rattle.reader.specs.declared.tree.Words.{Words}
 use Rattle.reader.specs.declared.items.Item.{Item}
 use Rattle.reader.specs.declared.items.Item.the-variants as I
-use Rattle.reader.specs.declared.items.After.{After}
-use Rattle.reader.specs.declared.items.After.the-variants as X
 use Rattle.reader.specs.declared.values.Answer.{Answer}
 use Rattle.reader.specs.declared.values.Answer.the-variants as A
-use Rattle.reader.specs.Tree.{Span, Tree, branch, Forest, size, headOf, rows}
-use Rattle.reader.specs.Syntax.{Label, label, Frame, frame, Slot, first, after, more, value, inside, colon, Config, config, refuse, Begins, begins, spanOf, isObject, closer, headBy, ended, valueStep, step, Outcome, refused, atEnd, afterStep, run, holds}
+use Rattle.reader.specs.Tree.{Span, Tree, branch, Forest, size, headOf, rows, kindNumber}
+use Rattle.reader.specs.Syntax.{Label, label, Frame, frame, Slot, first, more, value, inside, Config, config, Begins, begins, spanOf, isObject, headBy, ended, valueStep, Outcome, refused, afterStep, run, holds}
 use Rattle.reader.specs.Internal.Tokens.{formAt, tokenAt, TokenAt}
 
--- ---- spans and rows, as the code carries them
+-- ---- spans, labels and rows, as the code carries them
 
--- the span that two words say: 0, 0 is none
+-- the span that two numbers say: 0, 0 is none
 unfoldable pub spanAt : (a e : ℕ) → Option Span
 spanAt a e = cond (eqb e 0) none (some (record { start = a; stop = e }))
 
--- the label that the code's spans say
-unfoldable pub labelOf : Spans → Label
-labelOf p = label (p .start) (spanAt (p .key) (p .keyend)) (spanAt (p .name) (p .nameend))
+-- the label that the code's label says
+unfoldable pub labelOf : CL.Label → Label
+labelOf p = label (p .start) (spanAt (p .key .start) (p .key .stop)) (spanAt (p .name .start) (p .name .stop))
 
--- no span but 0, 0 ends at 0
-pub record Sane (p : Spans) : Type 0 where
-  pub keys : p .keyend ≡ 0 → p .key ≡ 0
-  pub names : p .nameend ≡ 0 → p .name ≡ 0
+-- no span but 0, 0 ends at 0, and none lies past the longest text
+pub record Sane (p : CL.Label) : Type 0 where
+  pub keys : p .key .stop ≡ 0 → p .key .start ≡ 0
+  pub names : p .name .stop ≡ 0 → p .name .start ≡ 0
+  pub start-low : p .start ≤ 65536
+  pub key-low : p .key .start ≤ 65536
+  pub key-stop-low : p .key .stop ≤ 65536
+  pub name-low : p .name .start ≤ 65536
+  pub name-stop-low : p .name .stop ≤ 65536
+
+-- a value that begins at `start`, with no identifier so far
+abbrev pub freshDue : (any : Bool) (start : ℕ) → CS.Span → Spot → Due
+freshDue any start key spot =
+    record { any = any; fresh = true; label = record { start = start; key = key; name = record { start = 0; stop = 0 } }; spot = spot }
+
+-- where a child stands, of the value at this spot
+abbrev pub childSpot : Spot → (node : ℕ) → Spot
+childSpot spot node = record { node = node; depth = spot .depth + 1; parent = spot .node }
+
+-- the value in the bracket of an identifier whose name stands from `start` to `stop`
+abbrev pub namedDue : Due → (start stop : ℕ) → Due
+namedDue due start stop =
+    record { any = due .any; fresh = false; label = record { start = due .label .start; key = due .label .key; name = record { start = start; stop = stop } }; spot = due .spot }
 
 -- a row's words
-abbrev pub rowWords : (kind parent : ℕ) → Spans → (stop next a b c : ℕ) → List ℕ
+abbrev pub rowWords : (kind parent : ℕ) → CL.Label → (stop next a b c : ℕ) → List ℕ
 rowWords kind parent p stop next a b c =
-    kind ∷ parent ∷ p .start ∷ stop ∷ p .key ∷ p .keyend ∷ p .name ∷ p .nameend ∷ next ∷ a ∷ b ∷ c ∷ []
+    kind ∷ parent ∷ p .start ∷ stop ∷ p .key .start ∷ p .key .stop ∷ p .name .start ∷ p .name .stop ∷ next ∷ a ∷ b ∷ c ∷ []
+
+-- the row of a value that was due, with its own words
+abbrev pub rowOf : Due → Words → (stop next : ℕ) → List ℕ
+rowOf due w stop next = rowWords (w .kind) (due .spot .parent) (due .label) stop next (w .a) (w .b) (w .c)
+
+-- a container's own words
+abbrev pub branchWords : Kind → (children : ℕ) → Words
+branchWords kind children = record { kind = kindNumber kind; a = children; b = 0; c = 0 }
+
+-- room for the row of a value that was due, and its numbers fit into words
+pub record RowRoom (tab : List ℕ) (due : Due) (stop next : ℕ) : Type 0 where
+  pub row : 12 * due .spot .node + 12 ≤ length tab
+  pub label : Sane (due .label)
+  pub stop-low : stop ≤ 65536
+  pub next-low : next ≤ 65536
 
 -- ---- runs
 
@@ -71,62 +104,6 @@ opened sw limits s start stop fresh any l n b stack =
 abbrev pub openedHere : Switches → Limits → List ℕ → (start stop : ℕ) (any : Bool) → Option Span → (n : ℕ) → List Frame → Outcome
 openedHere sw limits s start stop any key n =
     opened sw limits s start stop true any (label start key none) n (begins (spanOf (tokenAt sw s start stop)) (formAt sw s start))
-
--- the next token from `from` is of the kind k, from `start` to `stop`
-pub record Peeked (sw : Switches) (s : List ℕ) (from : ℕ) (k : TokenKind) (start stop : ℕ) : Type 0 where
-  pub ahead : from ≤ start
-  pub token : TokenAt sw s k start stop
-  pub toks : tokensFrom sw s from ≡ L.next (tokenAt sw s start stop) (tokensFrom sw s stop)
-
--- ---- one mark
-
--- the token is this mark
-unfoldable pub markIs : TokenKind → ℕ → Bool
-markIs (K.Mark b) c = eqb b c
-markIs K.Word c = false
-markIs (K.Text n) c = false
-markIs (K.Bytes n) c = false
-markIs (K.Integer z) c = false
-markIs (K.Decimal minus m p) c = false
-
--- the next token from `from` is this mark, and ends at `stop`
-pub record Marked (sw : Switches) (s : List ℕ) (from want stop : ℕ) : Type 0 where
-  pub start : ℕ
-  pub ahead : from ≤ start
-  pub some : start < stop
-  pub inside : stop ≤ length s
-  pub toks : tokensFrom sw s from ≡ L.next (record { form = L.mark want; start = start; stop = stop }) (tokensFrom sw s stop)
-
--- a state in which that mark alone is allowed
-pub record Wants (sw : Switches) (limits : Limits) (want : ℕ) (c : Config) : Type 0 where
-  pub others : (t : Token) → ((b : ℕ) → t .form ≡ L.mark b → b ≡ want → ⊥) → step sw limits c t ≡ refuse 7
-  pub ends : (place : ℕ) → atEnd place (c .mode) ≡ refused 7 place
-
--- it is another one, a fault or the end: every state in which that mark alone is allowed comes to this refusal
-pub record NotMarked (sw : Switches) (s : List ℕ) (from want number place : ℕ) : Type 0 where
-  pub ran : (limits : Limits) (c : Config) → Wants sw limits want c → runFrom sw limits s from c ≡ refused number place
-
--- `Marked` or `NotMarked`, by the code's answer
-abbrev pub OnlyIs : Switches → List ℕ → (from want : ℕ) → Only → Type 0
-OnlyIs sw s from want (O.At stop) = Marked sw s from want stop
-OnlyIs sw s from want (O.Not number place) = NotMarked sw s from want number place
-
--- the same as a record
-pub record OnlyOne (sw : Switches) (s : List ℕ) (from want : ℕ) (r : Only) : Type 0 where
-  pub is : OnlyIs sw s from want r
-
--- the byte that closes a container
-abbrev pub closerByte : Kind → ℕ
-closerByte kind = code (closer kind)
-
--- a key's token: "any word of the shape, or a text string"
-unfoldable pub isKey : TokenKind → Bool
-isKey (K.Mark b) = false
-isKey K.Word = true
-isKey (K.Text n) = true
-isKey (K.Bytes n) = false
-isKey (K.Integer z) = false
-isKey (K.Decimal minus m p) = false
 
 -- ---- keys in the table
 
@@ -181,10 +158,10 @@ pub record Known (sw : Switches) (s : List ℕ) (kind : Kind) (tab : List ℕ) (
   pub chain : isObject kind ≡ true → Chain sw s tab x m ks
 
 -- what a reader of an item is handed
-pub record Look (sw : Switches) (s : List ℕ) (kind : Kind) (tab : List ℕ) (from x m : ℕ) : Type 0 where
+pub record Look (sw : Switches) (s : List ℕ) (kind : Kind) (tab : List ℕ) (c : Children) (from : ℕ) : Type 0 where
   pub inside : from ≤ length s
   pub short : length s ≤ 65536
-  pub chained : isObject kind ≡ true → Chained sw s tab x m
+  pub chained : isObject kind ≡ true → Chained sw s tab (c .first) (c .next)
 
 -- a child's first token comes, with its key from a to b
 pub record Valued (sw : Switches) (s : List ℕ) (kind : Kind) (tab : List ℕ) (i x m z : ℕ) (k : TokenKind) (start stop a b : ℕ) : Type 0 where
@@ -213,84 +190,56 @@ pub record Refuses (sw : Switches) (s : List ℕ) (kind : Kind) (tab : List ℕ)
 
 -- `Valued`, `Ends` or `Refuses`, by the code's answer
 abbrev pub ItemIs : Switches → List ℕ → Kind → List ℕ → (i x m z : ℕ) → Item → Type 0
-ItemIs sw s kind tab i x m z (I.Value k start stop a b) = Valued sw s kind tab i x m z k start stop a b
+ItemIs sw s kind tab i x m z (I.Value t key) = Valued sw s kind tab i x m z (t .kind) (t .start) (t .stop) (key .start) (key .stop)
 ItemIs sw s kind tab i x m z (I.Last j) = Ends sw s kind tab i x m z j
-ItemIs sw s kind tab i x m z (I.Wrong number place) = Refuses sw s kind tab i x m z number place
+ItemIs sw s kind tab i x m z (I.Wrong f) = Refuses sw s kind tab i x m z (f .number) (f .place)
 
 -- the same as a record
-pub record ItemAt (sw : Switches) (s : List ℕ) (kind : Kind) (tab : List ℕ) (i x m z : ℕ) (r : Item) : Type 0 where
-  pub is : ItemIs sw s kind tab i x m z r
+pub record ItemAt (sw : Switches) (s : List ℕ) (kind : Kind) (tab : List ℕ) (c : Children) (i : ℕ) (r : Item) : Type 0 where
+  pub is : ItemIs sw s kind tab i (c .first) (c .next) (c .count) r
 
--- the same for every number of children, on which an object's items do not hang
-pub record FieldAt (sw : Switches) (s : List ℕ) (tab : List ℕ) (i x m : ℕ) (r : Item) : Type 0 where
-  pub is : (z : ℕ) → ItemIs sw s Object tab i x m z r
-
--- after the key from `start` to `stop`: its colon and its value's first token
-abbrev pub AfterKeyIs : Switches → List ℕ → (start stop : ℕ) → Item → Type 0
-AfterKeyIs sw s start stop (I.Value k p q a b) =
-    (a ≡ start) × (b ≡ stop) × (stop ≤ p) × TokenAt sw s k p q
-    × ((limits : Limits) (stack : List Frame) (m : ℕ)
-    → runFrom sw limits s stop (config stack (colon (record { start = start; stop = stop })) m) ≡ openedHere sw limits s p q true (some (record { start = start; stop = stop })) m stack)
-AfterKeyIs sw s start stop (I.Last j) = ⊥
-AfterKeyIs sw s start stop (I.Wrong number place) =
-    (limits : Limits) (stack : List Frame) (m : ℕ) → runFrom sw limits s stop (config stack (colon (record { start = start; stop = stop })) m) ≡ refused number place
-
--- the same as a record
-pub record AfterKey (sw : Switches) (s : List ℕ) (start stop : ℕ) (r : Item) : Type 0 where
-  pub is : AfterKeyIs sw s start stop r
-
--- after a child, a comma
-pub record Follows (sw : Switches) (s : List ℕ) (kind : Kind) (i j : ℕ) : Type 0 where
-  pub ahead : i < j
-  pub within : j ≤ length s
-  pub ran : (limits : Limits) (l : Label) (ts : Forest) (ks : List (List ℕ)) (stack : List Frame) (m : ℕ)
-      → runFrom sw limits s i (config (frame kind l ts ks ∷ stack) (inside after) m) ≡ runFrom sw limits s j (config (frame kind l ts ks ∷ stack) (inside more) m)
-
--- after a child, the end of the container
-pub record Closes (sw : Switches) (s : List ℕ) (kind : Kind) (i j : ℕ) : Type 0 where
-  pub ahead : i < j
-  pub within : j ≤ length s
-  pub ran : (limits : Limits) (l : Label) (ts : Forest) (ks : List (List ℕ)) (stack : List Frame) (m : ℕ)
-      → runFrom sw limits s i (config (frame kind l ts ks ∷ stack) (inside after) m) ≡ runFrom sw limits s j (ended stack m (l .name) (branch (headBy l j) kind ts))
-
--- after a child, a refusal
-pub record FollowsNot (sw : Switches) (s : List ℕ) (kind : Kind) (i number place : ℕ) : Type 0 where
-  pub ran : (limits : Limits) (l : Label) (ts : Forest) (ks : List (List ℕ)) (stack : List Frame) (m : ℕ)
-      → runFrom sw limits s i (config (frame kind l ts ks ∷ stack) (inside after) m) ≡ refused number place
-
--- `Follows`, `Closes` or `FollowsNot`, by the code's answer
-abbrev pub NextIs : Switches → List ℕ → Kind → (i : ℕ) → After → Type 0
-NextIs sw s kind i (X.More j) = Follows sw s kind i j
-NextIs sw s kind i (X.Over j) = Closes sw s kind i j
-NextIs sw s kind i (X.Off number place) = FollowsNot sw s kind i number place
-
--- the same as a record
-pub record NextAt (sw : Switches) (s : List ℕ) (kind : Kind) (i : ℕ) (r : After) : Type 0 where
-  pub is : NextIs sw s kind i r
+-- the same for every table: the items of an array or a tuple do not hang on it
+pub record ElementAt (sw : Switches) (s : List ℕ) (kind : Kind) (z i : ℕ) (r : Item) : Type 0 where
+  pub is : (tab : List ℕ) (x m : ℕ) → ItemIs sw s kind tab i x m z r
 
 -- ---- values
 
--- what a reader of a value is handed: room for the nodes up to the limit, and for its own node if it has been counted
-pub record Fit (s tab : List ℕ) (limits : Limits) (fresh : Bool) (n : ℕ) : Type 0 where
-  pub counted : fresh ≡ false → n < limits .nodes
-  pub short : length s ≤ 65536
-  pub below : n ≤ limits .nodes
+-- room for the nodes up to the limit
+pub record Roomy (limits : Limits) (tab : List ℕ) : Type 0 where
   pub room : 12 * limits .nodes ≤ length tab
   pub small : limits .nodes ≤ 4096
 
--- a token's place
-pub record Placed (s : List ℕ) (start stop : ℕ) : Type 0 where
-  pub ordered : start < stop
-  pub inside : stop ≤ length s
+-- what a reader of a value is handed: the table has room, for the value's own node too if it has been counted
+pub record Ready (limits : Limits) (tab : List ℕ) (due : Due) : Type 0 where
+  pub table : Roomy limits tab
+  pub counted : due .fresh ≡ false → due .spot .node < limits .nodes
+  pub below : due .spot .node ≤ limits .nodes
+  pub label : Sane (due .label)
+  pub unnamed : due .fresh ≡ true → due .label .name .stop ≡ 0
 
--- a key's span, or 0, 0
-pub record KeySpan (key keyend : ℕ) : Type 0 where
-  pub sane : keyend ≡ 0 → key ≡ 0
-  pub starts : key ≤ 65536
-  pub ends : keyend ≤ 65536
+-- a token's place in a text that is not too long
+pub record Placed (s : List ℕ) (t : CT.Token) : Type 0 where
+  pub ordered : t .start < t .stop
+  pub inside : t .stop ≤ length s
+  pub short : length s ≤ 65536
 
--- a value with the label l was read up to j, and its identifier's bracket is still due if there is a name
-pub record Took (sw : Switches) (limits : Limits) (s : List ℕ) (ω : List Frame → Outcome) (l : Label) (name : Option Span) (o d parent n : ℕ) (tin tout : List ℕ) (j m : ℕ) : Type 0 where
+-- a value that is due has no node left
+abbrev pub isFull : Limits → Due → Bool
+isFull limits due = due .fresh && leb (limits .nodes) (due .spot .node)
+
+-- a value that holds no others, by its token: 7 where a container is due, 10
+unfoldable pub leafAnswer : Limits → Due → CT.Token → Answer
+leafAnswer limits due t =
+    cond (due .any) (cond (isFull limits due) (A.Refused (record { number = 10; place = t .start })) (A.Done (t .stop) (due .spot .node + 1)))
+    (A.Refused (record { number = 7; place = t .start }))
+
+-- the table then
+unfoldable pub leafTable : Limits → Due → CT.Token → Words → List ℕ → List ℕ
+leafTable limits due t w tab =
+    cond (due .any) (cond (isFull limits due) tab (sets tab (12 * due .spot .node) (rowOf due w (t .stop) (due .spot .node + 1)))) tab
+
+-- a value with the label l was read up to j, and its identifier's bracket is still due if it has one
+pub record Took (sw : Switches) (limits : Limits) (s : List ℕ) (ω : List Frame → Outcome) (l : Label) (o d parent n : ℕ) (tin tout : List ℕ) (j m : ℕ) : Type 0 where
   pub tree : Tree
   pub keyed : headOf tree .key ≡ l .key
   pub begun : headOf tree .value .start ≡ l .start
@@ -300,17 +249,21 @@ pub record Took (sw : Switches) (limits : Limits) (s : List ℕ) (ω : List Fram
   pub ahead : o < j
   pub inside : j ≤ length s
   pub wrote : tout ≡ sets tin (12 * n) (rows parent n tree)
-  pub ran : (stack : List Frame) → length stack ≡ d → ω stack ≡ runFrom sw limits s j (ended stack m name tree)
+  pub ran : (stack : List Frame) → length stack ≡ d → ω stack ≡ runFrom sw limits s j (ended stack m (l .name) tree)
 
 -- the machine refuses
 pub record Stops (ω : List Frame → Outcome) (d number place : ℕ) : Type 0 where
   pub ran : (stack : List Frame) → length stack ≡ d → ω stack ≡ refused number place
 
 -- `Took` or `Stops`, by the code's answer
-abbrev pub RanIs : Switches → Limits → List ℕ → (List Frame → Outcome) → Label → (name : Option Span) → (o d parent n : ℕ) (tin tout : List ℕ) → Answer → Type 0
-RanIs sw limits s ω l name o d parent n tin tout (A.Done j m) = Took sw limits s ω l name o d parent n tin tout j m
-RanIs sw limits s ω l name o d parent n tin tout (A.Refused number place) = Stops ω d number place
+abbrev pub RanIs : Switches → Limits → List ℕ → (List Frame → Outcome) → Label → (o d parent n : ℕ) (tin tout : List ℕ) → Answer → Type 0
+RanIs sw limits s ω l o d parent n tin tout (A.Done j m) = Took sw limits s ω l o d parent n tin tout j m
+RanIs sw limits s ω l o d parent n tin tout (A.Refused f) = Stops ω d (f .number) (f .place)
 
--- the same as a record
-pub record Ran (sw : Switches) (limits : Limits) (s : List ℕ) (ω : List Frame → Outcome) (l : Label) (name : Option Span) (o d parent n : ℕ) (tin tout : List ℕ) (r : Answer) : Type 0 where
-  pub is : RanIs sw limits s ω l name o d parent n tin tout r
+-- what the text comes to where a value is due, and its token begins b
+abbrev pub openedBy : Rules → List ℕ → Due → CT.Token → Begins → List Frame → Outcome
+openedBy rules s due t b = opened (rules .sw) (rules .limits) s (t .start) (t .stop) (due .fresh) (due .any) (labelOf (due .label)) (due .spot .node) b
+
+-- the value that is due was read, or refused, from a token that begins b
+pub record ReadAs (rules : Rules) (s : List ℕ) (due : Due) (t : CT.Token) (b : Begins) (tin tout : List ℕ) (r : Answer) : Type 0 where
+  pub is : RanIs (rules .sw) (rules .limits) s (openedBy rules s due t b) (labelOf (due .label)) (t .start) (due .spot .depth) (due .spot .parent) (due .spot .node) tin tout r

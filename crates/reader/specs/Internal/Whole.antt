@@ -6,13 +6,27 @@ use mathlib.Core.Bool.{Bool}
 use mathlib.Core.List.{List}
 use lib.Seq.{sets}
 use Rattle.text.specs.declared.switches.Switches.{Switches}
-use Rattle.lexer.specs.Token.{tokens}
+use Rattle.lexer.specs.declared.item.Next.{Next}
+use Rattle.lexer.specs.declared.item.Next.the-variants as N
+use Rattle.lexer.specs.Token.{tokens, tokensFrom}
+use Rattle.lexer.specs.Answer.{firstOf}
 use Rattle.reader.specs.declared.tree.Limits.{Limits}
+use Rattle.reader.specs.declared.tree.Rules.{Rules}
 use Rattle.reader.specs.declared.read.Whole.{Whole}
 use Rattle.reader.specs.declared.read.Whole.the-variants as W
 use Rattle.reader.specs.Tree.{Tree, size, headOf, rows, noParent}
 use Rattle.reader.specs.Syntax.{Outcome, taken, refused, run, before}
 use Rattle.reader.specs.Reading.{outcome}
+
+-- a value was read from `start` to `stop`: what comes next must be the text's end
+unfoldable pub aloneOf : (start stop nodes : ℕ) → Next → Whole
+aloneOf start stop nodes (N.Token kind a b) = W.Refused (record { number = 7; place = a })
+aloneOf start stop nodes (N.End place) = W.Done start stop nodes
+aloneOf start stop nodes (N.Fault number place) = W.Refused (record { number = number; place = place })
+
+-- the same by the text
+abbrev pub aloneAt : Switches → List ℕ → (start stop nodes : ℕ) → Whole
+aloneAt sw s start stop nodes = aloneOf start stop nodes (firstOf (tokensFrom sw s stop))
 
 -- the outcome is this tree, and its rows are written
 pub record TreeRead (limits : Limits) (o : Outcome) (tin tout : List ℕ) (start stop nodes : ℕ) : Type 0 where
@@ -27,12 +41,12 @@ pub record TreeRead (limits : Limits) (o : Outcome) (tin tout : List ℕ) (start
 -- the tree or the refusal, by the code's answer
 abbrev pub TreeIs : Limits → Outcome → (tin tout : List ℕ) → Whole → Type 0
 TreeIs limits o tin tout (W.Done start stop nodes) = TreeRead limits o tin tout start stop nodes
-TreeIs limits o tin tout (W.Refused number place) = o ≡ refused number place
+TreeIs limits o tin tout (W.Refused f) = o ≡ refused (f .number) (f .place)
 
 -- the outcome of a text's tokens
-pub record WholeAt (sw : Switches) (limits : Limits) (any : Bool) (s tin tout : List ℕ) (r : Whole) : Type 0 where
-  pub is : TreeIs limits (run sw limits (tokens sw s) (before any)) tin tout r
+pub record WholeAt (rules : Rules) (any : Bool) (s tin tout : List ℕ) (r : Whole) : Type 0 where
+  pub is : TreeIs (rules .limits) (run (rules .sw) (rules .limits) (tokens (rules .sw) s) (before any)) tin tout r
 
 -- the outcome of a text, its length and UTF-8 judged first
-pub record JudgedAt (sw : Switches) (limits : Limits) (any : Bool) (s tin tout : List ℕ) (r : Whole) : Type 0 where
-  pub is : TreeIs limits (outcome sw any limits s) tin tout r
+pub record JudgedAt (rules : Rules) (any : Bool) (s tin tout : List ℕ) (r : Whole) : Type 0 where
+  pub is : TreeIs (rules .limits) (outcome (rules .sw) any (rules .limits) s) tin tout r

@@ -40,26 +40,26 @@ word-begin-requires c κs = search needs
 enum-known-kind-2 : tie.Need-enum-known-kind-2
 enum-known-kind-2 c = search needs
 
-cast-t18 : tie.Need-cast-t18
-cast-t18 c = search needs
-
 cast-t19 : tie.Need-cast-t19
 cast-t19 c = search needs
 
 cast-t20 : tie.Need-cast-t20
-cast-t20 c = let h = text-fits (c .before .before .before .before .args .sw) (c .before .before .before .before .args .text .now) (c .before .before .before .before .args .start) (c .before .before .before .before .args .stop) (c .before .before .before .before .args .kind) (c .before .before .before .before .pre .0) (c .before .kind2 .given .0 .0) (c .before .kind2 .given .1) in omega arith
+cast-t20 c = search needs
+
+cast-t21 : tie.Need-cast-t21
+cast-t21 c = let h = text-fits (c .before .before .before .before .args .sw) (c .before .before .before .before .args .text .now) (c .before .before .before .before .args .token .start) (c .before .before .before .before .args .token .stop) (c .before .before .before .before .args .token .kind) (c .before .before .before .before .pre .0) (c .before .kind2 .given .0 .0) (c .before .kind2 .given .1) in omega arith
 
 enum-known-kind-3 : tie.Need-enum-known-kind-3
 enum-known-kind-3 c = search needs
-
-cast-t22 : tie.Need-cast-t22
-cast-t22 c = search needs
 
 cast-t23 : tie.Need-cast-t23
 cast-t23 c = search needs
 
 cast-t24 : tie.Need-cast-t24
-cast-t24 c = let h = bytes-fits (c .before .before .before .before .args .sw) (c .before .before .before .before .args .text .now) (c .before .before .before .before .args .start) (c .before .before .before .before .args .stop) (c .before .before .before .before .args .kind) (c .before .before .before .before .pre .0) (c .before .kind3 .given .0 .0) (c .before .kind3 .given .1) in omega arith
+cast-t24 c = search needs
+
+cast-t25 : tie.Need-cast-t25
+cast-t25 c = let h = bytes-fits (c .before .before .before .before .args .sw) (c .before .before .before .before .args .text .now) (c .before .before .before .before .args .token .start) (c .before .before .before .before .args .token .stop) (c .before .before .before .before .args .token .kind) (c .before .before .before .before .pre .0) (c .before .kind3 .given .0 .0) (c .before .kind3 .given .1) in omega arith
 
 enum-known-kind-4 : tie.Need-enum-known-kind-4
 enum-known-kind-4 c = search needs
@@ -72,26 +72,26 @@ enum-known-kind-5 c = search needs
 
 decimal-leaf-requires : tie.Need-decimal-leaf-requires
 decimal-leaf-requires c κs = subst (λ (y : ℤ). DecimalFits (c .before .kind5 .given .0 .1 .0) y) (sym (toZ-ofZ {w = w64} {z = c .before .kind5 .given .0 .1 .1 .0} (record { sfits = c .known-told5 .given .1 .1 .0 .1 })))
-    (decimal-fits (c .before .before .before .before .args .sw) (c .before .before .before .before .args .text .now) (c .before .before .before .before .args .start) (c .before .before .before .before .args .stop) (c .before .before .before .before .args .kind) (c .before .before .before .before .pre .0) (c .before .kind5 .given .0 .0) (c .before .kind5 .given .0 .1 .0) (c .before .kind5 .given .0 .1 .1 .0) (c .before .kind5 .given .1))
+    (decimal-fits (c .before .before .before .before .args .sw) (c .before .before .before .before .args .text .now) (c .before .before .before .before .args .token .start) (c .before .before .before .before .args .token .stop) (c .before .before .before .before .args .token .kind) (c .before .before .before .before .pre .0) (c .before .kind5 .given .0 .0) (c .before .kind5 .given .0 .1 .0) (c .before .kind5 .given .0 .1 .1 .0) (c .before .kind5 .given .1))
 
 returns : tie.Need-returns
-returns c = mark-begun (c .before .before .before .before .before .args .sw) (c .before .before .before .before .before .args .text .now) (c .before .before .before .before .before .args .start) (c .before .before .before .before .before .args .stop) (c .before .before .before .before .before .args .kind) (c .before .before .before .before .before .pre .0) (c .before .before .kind .given .0 .0) (c .mark-begin .result) (c .before .before .kind .given .1) (c .mark-begin .ensures)
+returns c = mark-begun (c .before .before .before .before .before .args .sw) (c .before .before .before .before .before .args .text .now) (c .before .before .before .before .before .args .token .start) (c .before .before .before .before .before .args .token .stop) (c .before .before .before .before .before .args .token .kind) (c .before .before .before .before .before .pre .0) (c .before .before .kind .given .0 .0) (c .mark-begin .result) (c .before .before .kind .given .1) (c .mark-begin .ensures)
 
 returns-2 : tie.Need-returns-2
-returns-2 c = word-begun (c .before .before .before .before .before .args .sw) (c .before .before .before .before .before .args .text .now) (c .before .before .before .before .before .args .start) (c .before .before .before .before .before .args .stop) (c .before .before .before .before .before .args .kind) (c .before .before .before .before .before .pre .0) (c .word-begin .result) (c .before .before .enum-told .given .1) (c .word-begin .ensures)
+returns-2 c = word-begun (c .before .before .before .before .before .args .sw) (c .before .before .before .before .before .args .text .now) (c .before .before .before .before .before .args .token .start) (c .before .before .before .before .before .args .token .stop) (c .before .before .before .before .before .args .token .kind) (c .before .before .before .before .before .pre .0) (c .word-begin .result) (c .before .before .enum-told .given .1) (c .word-begin .ensures)
 
 returns-3 : tie.Need-returns-3
-returns-3 c = text-begun (c .before .before .before .before .args .sw) (c .before .before .before .before .args .text .now) (c .before .before .before .before .args .start) (c .before .before .before .before .args .stop) (c .before .before .before .before .args .kind) (c .before .before .before .before .pre .0) (c .before .kind2 .given .0 .0) (c .before .kind2 .given .1)
+returns-3 c = text-begun (c .before .before .before .before .args .sw) (c .before .before .before .before .args .text .now) (c .before .before .before .before .args .token .start) (c .before .before .before .before .args .token .stop) (c .before .before .before .before .args .token .kind) (c .before .before .before .before .pre .0) (c .before .kind2 .given .0 .0) (c .before .kind2 .given .1)
 
 returns-4 : tie.Need-returns-4
-returns-4 c = bytes-begun (c .before .before .before .before .args .sw) (c .before .before .before .before .args .text .now) (c .before .before .before .before .args .start) (c .before .before .before .before .args .stop) (c .before .before .before .before .args .kind) (c .before .before .before .before .pre .0) (c .before .kind3 .given .0 .0) (c .before .kind3 .given .1)
+returns-4 c = bytes-begun (c .before .before .before .before .args .sw) (c .before .before .before .before .args .text .now) (c .before .before .before .before .args .token .start) (c .before .before .before .before .args .token .stop) (c .before .before .before .before .args .token .kind) (c .before .before .before .before .pre .0) (c .before .kind3 .given .0 .0) (c .before .kind3 .given .1)
 
 returns-5 : tie.Need-returns-5
-returns-5 c = integer-begun (c .before .before .before .before .before .args .sw) (c .before .before .before .before .before .args .text .now) (c .before .before .before .before .before .args .start) (c .before .before .before .before .before .args .stop) (c .before .before .before .before .before .args .kind) (c .before .before .before .before .before .pre .0) (c .before .before .kind4 .given .0 .0) (c .integer-leaf .result) (c .before .before .kind4 .given .1)
+returns-5 c = integer-begun (c .before .before .before .before .before .args .sw) (c .before .before .before .before .before .args .text .now) (c .before .before .before .before .before .args .token .start) (c .before .before .before .before .before .args .token .stop) (c .before .before .before .before .before .args .token .kind) (c .before .before .before .before .before .pre .0) (c .before .before .kind4 .given .0 .0) (c .integer-leaf .result) (c .before .before .kind4 .given .1)
     (c .integer-leaf .ensures ∙ ap (λ (y : ℤ). leafOf (integer y)) (toZ-ofZ {w = w64} {z = c .before .before .kind4 .given .0 .0} (record { sfits = c .before .known-told4 .given .0 .1 })))
 
 returns-6 : tie.Need-returns-6
-returns-6 c = decimal-begun (c .before .before .before .before .before .args .sw) (c .before .before .before .before .before .args .text .now) (c .before .before .before .before .before .args .start) (c .before .before .before .before .before .args .stop) (c .before .before .before .before .before .args .kind) (c .before .before .before .before .before .pre .0) (c .before .before .kind5 .given .0 .0) (c .before .before .kind5 .given .0 .1 .0) (c .before .before .kind5 .given .0 .1 .1 .0) (c .decimal-leaf .result) (c .before .before .kind5 .given .1)
+returns-6 c = decimal-begun (c .before .before .before .before .before .args .sw) (c .before .before .before .before .before .args .text .now) (c .before .before .before .before .before .args .token .start) (c .before .before .before .before .before .args .token .stop) (c .before .before .before .before .before .args .token .kind) (c .before .before .before .before .before .pre .0) (c .before .before .kind5 .given .0 .0) (c .before .before .kind5 .given .0 .1 .0) (c .before .before .kind5 .given .0 .1 .1 .0) (c .decimal-leaf .result) (c .before .before .kind5 .given .1)
     (c .decimal-leaf .ensures ∙ ap (λ (y : ℤ). leafOf (decimal (c .before .before .kind5 .given .0 .0) (c .before .before .kind5 .given .0 .1 .0) y)) (toZ-ofZ {w = w64} {z = c .before .before .kind5 .given .0 .1 .1 .0} (record { sfits = c .before .known-told5 .given .1 .1 .0 .1 })))
 
 pub begin-of-spec : {M : Type 1} → statement M
@@ -106,13 +106,13 @@ begin-of-spec =
     part-word-begin-end
     word-begin-requires
     enum-known-kind-2
-    cast-t18
     cast-t19
     cast-t20
+    cast-t21
     enum-known-kind-3
-    cast-t22
     cast-t23
     cast-t24
+    cast-t25
     enum-known-kind-4
     integer-leaf-requires
     enum-known-kind-5

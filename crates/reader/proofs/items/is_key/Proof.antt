@@ -1,6 +1,6 @@
 use native.Mathlib.Omega.{arith}
 use mathlib.Core.Path.{sym, ap, _∙_}
-use Rattle.reader.specs.Internal.Values.{isKey}
+use Rattle.reader.specs.Internal.Ahead.{isKey}
 use borrow.Author.Needs.{needs}
 use Rattle.reader.proofs.items.is_key.Statement.{statement}
 use Rattle.reader.proofs.items.is_key.Tie as tie

@@ -1,7 +1,7 @@
 use native.Mathlib.Omega.{arith}
 use mathlib.Core.Path.{sym, ap, _∙_}
 use Rattle.lexer.specs.declared.item.TokenKind.{TokenKind}
-use Rattle.reader.specs.Internal.Values.{markIs}
+use Rattle.reader.specs.Internal.Ahead.{markIs}
 use borrow.Author.Needs.{needs}
 use Rattle.reader.proofs.items.is_mark.Statement.{statement}
 use Rattle.reader.proofs.items.is_mark.Tie as tie

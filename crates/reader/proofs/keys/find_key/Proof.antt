@@ -16,19 +16,19 @@ use Rattle.lexer.proofs.token.part_of.Reads as part-of-reads
 use Rattle.reader.proofs.rows.word.Reads as word-reads
 
 abbrev Inv-loop : tie.InvT-loop
-Inv-loop sw text table from end a e body start stop own x₀ x = (K : KeyHere sw text a e) × (content sw body own ≡ some (K .content)) × Walk sw text table from x end (K .content)
+Inv-loop sw text table children a e body start stop own x₀ x = (K : KeyHere sw text a e) × (content sw body own ≡ some (K .content)) × Walk sw text table (children .first) x (children .next) (K .content)
 
 abbrev μ-loop : tie.MeasureT-loop
-μ-loop sw text table from end a e body start stop own x₀ x = end - x
+μ-loop sw text table children a e body start stop own x₀ x = children .next - x
 
-sub-key : tie.Need-sub-key Inv-loop μ-loop
-sub-key c = let o = c .before .before .pre .1 .key .ordered in omega arith
+sub-token : tie.Need-sub-token Inv-loop μ-loop
+sub-token c = let o = c .before .before .pre .1 .key .ordered in omega arith
 
-part-key-start : tie.Need-part-key-start Inv-loop μ-loop
-part-key-start c = let o = c .before .before .pre .1 .key .ordered in let i = c .before .before .pre .1 .key .inside in omega arith
+part-token-start : tie.Need-part-token-start Inv-loop μ-loop
+part-token-start c = let o = c .before .before .pre .1 .key .ordered in let i = c .before .before .pre .1 .key .inside in omega arith
 
-part-key-end : tie.Need-part-key-end Inv-loop μ-loop
-part-key-end c = let o = c .before .before .pre .1 .key .ordered in let i = c .before .before .pre .1 .key .inside in omega arith
+part-token-end : tie.Need-part-token-end Inv-loop μ-loop
+part-token-end c = let o = c .before .before .pre .1 .key .ordered in let i = c .before .before .pre .1 .key .inside in omega arith
 
 part-of-requires : tie.Need-part-of-requires Inv-loop μ-loop
 part-of-requires c κs = keyed _ _ _ _ _ (c .before .before .before .pre .1 .key)
@@ -46,57 +46,57 @@ loop-holds : tie.Need-loop-holds Inv-loop μ-loop
 loop-holds c = (c .before .before .before .before .before .pre .1, part-content _ _ _ _ _ (keyed _ _ _ _ _ (c .before .before .before .before .before .pre .1 .key)) (c .before .part-of .ensures .holds) ∙ c .before .before .before .before .before .pre .1 .key .holds, walk-start _ _ _ _ _ _ (c .before .before .before .before .before .pre .0))
 
 mul-word : tie.Need-mul-word Inv-loop μ-loop
-mul-word c = let L = walk-row _ _ _ _ _ _ _ (c .before .loop .inv .2) (omega arith) .1 in omega arith
+mul-word c = let L = walk-row _ _ _ _ _ _ _ (c .before .before .loop .inv .2) (omega arith) .1 in omega arith
 
 add-word : tie.Need-add-word Inv-loop μ-loop
-add-word c = let L = walk-row _ _ _ _ _ _ _ (c .before .loop .inv .2) (omega arith) .1 in omega arith
+add-word c = let L = walk-row _ _ _ _ _ _ _ (c .before .before .loop .inv .2) (omega arith) .1 in omega arith
 
 word-requires : tie.Need-word-requires Inv-loop μ-loop
-word-requires c κs = let L = walk-row _ _ _ _ _ _ _ (c .before .loop .inv .2) (omega arith) .1 in omega arith
+word-requires c κs = let L = walk-row _ _ _ _ _ _ _ (c .before .before .loop .inv .2) (omega arith) .1 in omega arith
 
 mul-word-2 : tie.Need-mul-word-2 Inv-loop μ-loop
-mul-word-2 c = let L = walk-row _ _ _ _ _ _ _ (c .before .before .loop .inv .2) (omega arith) .1 in omega arith
+mul-word-2 c = let L = walk-row _ _ _ _ _ _ _ (c .before .before .before .loop .inv .2) (omega arith) .1 in omega arith
 
 add-word-2 : tie.Need-add-word-2 Inv-loop μ-loop
-add-word-2 c = let L = walk-row _ _ _ _ _ _ _ (c .before .before .loop .inv .2) (omega arith) .1 in omega arith
+add-word-2 c = let L = walk-row _ _ _ _ _ _ _ (c .before .before .before .loop .inv .2) (omega arith) .1 in omega arith
 
 word-requires-2 : tie.Need-word-requires-2 Inv-loop μ-loop
-word-requires-2 c κs = let L = walk-row _ _ _ _ _ _ _ (c .before .before .loop .inv .2) (omega arith) .1 in omega arith
+word-requires-2 c κs = let L = walk-row _ _ _ _ _ _ _ (c .before .before .before .loop .inv .2) (omega arith) .1 in omega arith
 
 sub-content-is : tie.Need-sub-content-is Inv-loop μ-loop
-sub-content-is c = let K = walk-key _ _ _ _ _ _ _ _ _ (c .before .before .before .loop .inv .2) (omega arith) (c .before .word .ensures) (c .word2 .ensures) .1 in let o = K .ordered in omega arith
+sub-content-is c = let K = walk-key _ _ _ _ _ _ _ _ _ (c .before .before .before .before .loop .inv .2) (omega arith) (c .before .word .ensures) (c .word2 .ensures) .1 in let o = K .ordered in omega arith
 
 part-content-is-start : tie.Need-part-content-is-start Inv-loop μ-loop
-part-content-is-start c = let K = walk-key _ _ _ _ _ _ _ _ _ (c .before .before .before .loop .inv .2) (omega arith) (c .before .word .ensures) (c .word2 .ensures) .1 in let o = K .ordered in let i = K .inside in omega arith
+part-content-is-start c = let K = walk-key _ _ _ _ _ _ _ _ _ (c .before .before .before .before .loop .inv .2) (omega arith) (c .before .word .ensures) (c .word2 .ensures) .1 in let o = K .ordered in let i = K .inside in omega arith
 
 part-content-is-end : tie.Need-part-content-is-end Inv-loop μ-loop
-part-content-is-end c = let K = walk-key _ _ _ _ _ _ _ _ _ (c .before .before .before .loop .inv .2) (omega arith) (c .before .word .ensures) (c .word2 .ensures) .1 in let o = K .ordered in let i = K .inside in omega arith
+part-content-is-end c = let K = walk-key _ _ _ _ _ _ _ _ _ (c .before .before .before .before .loop .inv .2) (omega arith) (c .before .word .ensures) (c .word2 .ensures) .1 in let o = K .ordered in let i = K .inside in omega arith
 
 content-is-requires : tie.Need-content-is-requires Inv-loop μ-loop
-content-is-requires c κs = keyed _ _ _ _ _ (walk-key _ _ _ _ _ _ _ _ _ (c .before .before .before .before .loop .inv .2) (omega arith) (c .before .before .word .ensures) (c .before .word2 .ensures) .1)
+content-is-requires c κs = keyed _ _ _ _ _ (walk-key _ _ _ _ _ _ _ _ _ (c .before .before .before .before .before .loop .inv .2) (omega arith) (c .before .before .word .ensures) (c .before .word2 .ensures) .1)
 
 returns : tie.Need-returns Inv-loop μ-loop
-returns c = let K = walk-key _ _ _ _ _ _ _ _ _ (c .before .before .before .before .before .before .loop .inv .2) (omega arith) (c .before .before .before .before .word .ensures) (c .before .before .before .word2 .ensures) in
-    walk-hit _ _ _ _ _ _ _ _ (c .before .before .before .before .before .before .loop .inv .0 .key) _ _ _ (c .before .before .before .before .before .before .loop .inv .2) (omega arith) (c .before .before .before .before .word .ensures) (c .before .before .before .word2 .ensures) (K .0) (K .1) (sym (same-told _ _ _ _ _ _ _ _ _ (K .1) (c .before .before .before .before .before .before .loop .inv .1) (c .before .content-is .ensures)) ∙ c .if1 .taken)
+returns c = let K = walk-key _ _ _ _ _ _ _ _ _ (c .before .before .before .before .before .before .before .loop .inv .2) (omega arith) (c .before .before .before .before .word .ensures) (c .before .before .before .word2 .ensures) in
+    walk-hit _ _ _ _ _ _ _ _ (c .before .before .before .before .before .before .before .loop .inv .0 .key) _ _ _ (c .before .before .before .before .before .before .before .loop .inv .2) (omega arith) (c .before .before .before .before .word .ensures) (c .before .before .before .word2 .ensures) (K .0) (K .1) (sym (same-told _ _ _ _ _ _ _ _ _ (K .1) (c .before .before .before .before .before .before .before .loop .inv .1) (c .before .content-is .ensures)) ∙ c .if2 .taken)
 
 mul-word-3 : tie.Need-mul-word-3 Inv-loop μ-loop
-mul-word-3 c = let L = walk-row _ _ _ _ _ _ _ (c .before .before .before .before .before .before .loop .inv .2) (omega arith) .1 in omega arith
+mul-word-3 c = let L = walk-row _ _ _ _ _ _ _ (c .before .before .before .before .before .before .before .loop .inv .2) (omega arith) .1 in omega arith
 
 add-word-3 : tie.Need-add-word-3 Inv-loop μ-loop
-add-word-3 c = let L = walk-row _ _ _ _ _ _ _ (c .before .before .before .before .before .before .loop .inv .2) (omega arith) .1 in omega arith
+add-word-3 c = let L = walk-row _ _ _ _ _ _ _ (c .before .before .before .before .before .before .before .loop .inv .2) (omega arith) .1 in omega arith
 
 word-requires-3 : tie.Need-word-requires-3 Inv-loop μ-loop
-word-requires-3 c κs = let L = walk-row _ _ _ _ _ _ _ (c .before .before .before .before .before .before .loop .inv .2) (omega arith) .1 in omega arith
+word-requires-3 c κs = let L = walk-row _ _ _ _ _ _ _ (c .before .before .before .before .before .before .before .loop .inv .2) (omega arith) .1 in omega arith
 
 loop-less : tie.Need-loop-less Inv-loop μ-loop
-loop-less c = let L = walk-row _ _ _ _ _ _ _ (c .before .before .before .before .before .before .before .loop .inv .2) (omega arith) .1 in let e = c .word3 .ensures in omega arith
+loop-less c = let L = walk-row _ _ _ _ _ _ _ (c .before .before .before .before .before .before .before .before .loop .inv .2) (omega arith) .1 in let e = c .word3 .ensures in omega arith
 
 loop-again : tie.Need-loop-again Inv-loop μ-loop
-loop-again c = let K = walk-key _ _ _ _ _ _ _ _ _ (c .before .before .before .before .before .before .before .loop .inv .2) (omega arith) (c .before .before .before .before .before .word .ensures) (c .before .before .before .before .word2 .ensures) in
-    (c .before .before .before .before .before .before .before .loop .inv .0, c .before .before .before .before .before .before .before .loop .inv .1, walk-on _ _ _ _ _ _ _ _ _ _ (c .before .before .before .before .before .before .before .loop .inv .2) (omega arith) (c .before .before .before .before .before .word .ensures) (c .before .before .before .before .word2 .ensures) (c .word3 .ensures) (K .0) (K .1) (sym (same-told _ _ _ _ _ _ _ _ _ (K .1) (c .before .before .before .before .before .before .before .loop .inv .1) (c .before .before .content-is .ensures)) ∙ c .before .if1 .left))
+loop-again c = let K = walk-key _ _ _ _ _ _ _ _ _ (c .before .before .before .before .before .before .before .before .loop .inv .2) (omega arith) (c .before .before .before .before .before .word .ensures) (c .before .before .before .before .word2 .ensures) in
+    (c .before .before .before .before .before .before .before .before .loop .inv .0, c .before .before .before .before .before .before .before .before .loop .inv .1, walk-on _ _ _ _ _ _ _ _ _ _ (c .before .before .before .before .before .before .before .before .loop .inv .2) (omega arith) (c .before .before .before .before .before .word .ensures) (c .before .before .before .before .word2 .ensures) (c .word3 .ensures) (K .0) (K .1) (sym (same-told _ _ _ _ _ _ _ _ _ (K .1) (c .before .before .before .before .before .before .before .before .loop .inv .1) (c .before .before .content-is .ensures)) ∙ c .before .if2 .left))
 
 returns-2 : tie.Need-returns-2 Inv-loop μ-loop
-returns-2 c = walk-end _ _ _ _ _ _ _ _ (c .before .loop .inv .0 .key) _ (c .before .loop .inv .2) (omega arith)
+returns-2 c = walk-end _ _ _ _ _ _ _ _ (c .before .before .loop .inv .0 .key) _ (c .before .before .loop .inv .2) (omega arith)
 
 pub find-key-spec : {M : Type 1} → statement M
 find-key-spec =
@@ -104,9 +104,9 @@ find-key-spec =
     (tie.spec
     Inv-loop
     μ-loop
-    sub-key
-    part-key-start
-    part-key-end
+    sub-token
+    part-token-start
+    part-token-end
     part-of-requires
     sub-own
     part-own-start

@@ -1,7 +1,7 @@
 use native.Mathlib.Omega.{arith}
-use mathlib.Core.Path.{_≡_, refl, sym, ap, _∙_}
-use Prim.Native.Nat.{ℕ, _≤_, _*_}
-use lib.ListN.{length, replicate, length-replicate}
+use mathlib.Core.Path.{refl}
+use Prim.Native.Nat.{ℕ}
+use lib.ListN.{length-replicate}
 use borrow.Author.Tests.{eq-eqb, ne-eqb}
 use Rattle.reader.specs.Reading.{limitsAlone}
 use Rattle.reader.proofs.ReadRun.{tree-is, tree-not, alone-taken, alone-refused}
@@ -16,7 +16,7 @@ slice-aggregate-judge : tie.Need-slice-aggregate-judge
 slice-aggregate-judge c = omega arith
 
 judge-requires : tie.Need-judge-requires
-judge-requires c κs = let l = length-replicate {A = ℕ} 49152 0 in (omega arith, omega arith)
+judge-requires c κs = let l = length-replicate {A = ℕ} 49152 0 in record { room = omega arith; small = omega arith }
 
 enum-known-start : tie.Need-enum-known-start
 enum-known-start c = search needs

@@ -1,6 +1,6 @@
 use native.Mathlib.Omega.{arith}
-use mathlib.Core.Path.{_≡_, refl, sym, ap, _∙_}
-use Prim.Native.Nat.{ℕ, _≤_, _*_}
+use mathlib.Core.Path.{_≡_, ap, _∙_}
+use Prim.Native.Nat.{ℕ}
 use lib.ListN.{length}
 use Rattle.reader.specs.declared.tree.Limits.{Limits}
 use Rattle.reader.specs.Reading.{limitsOf, nodeLimit}
@@ -26,28 +26,28 @@ node-limit-requires : tie.Need-node-limit-requires
 node-limit-requires c κs = search needs
 
 judge-requires : tie.Need-judge-requires
-judge-requires c κs = limit-fits _ _ (c .before .node-limit .ensures)
+judge-requires c κs = limit-fits _ _ _ (c .before .node-limit .ensures)
 
 enum-known-nodes : tie.Need-enum-known-nodes
 enum-known-nodes c = search needs
 
-enum-known-number : tie.Need-enum-known-number
-enum-known-number c = search needs
+enum-known-refusal : tie.Need-enum-known-refusal
+enum-known-refusal c = search needs
 
 clear-requires-2 : tie.Need-clear-requires-2
 clear-requires-2 c κs = search needs
 
 same-length : tie.Need-same-length
-same-length c = c .before .before .before .before .before .judge .kept .1 .1 .1 .0 ∙ c .before .before .before .before .before .before .before .before .before .before .clear .kept .0
+same-length c = c .before .before .before .before .before .judge .kept .1 .1 .0 ∙ c .before .before .before .before .before .before .before .before .before .before .clear .kept .0
 
 returns : tie.Need-returns
 returns c = read-taken (c .before .before .before .before .before .before .before .before .before .before .before .before .before .before .args .sw) (c .before .before .before .before .before .before .before .before .before .before .before .before .before .before .args .text .now) (length (c .before .before .before .before .before .before .before .before .before .before .before .before .before .before .args .table .now)) _ (at-words _ _ _ (c .before .before .before .before .before .before .before .node-limit .ensures) (c .before .before .before .before .before .before .before .before .before .before .clear .kept .0)) _ (c .before .before .before .before .before .before .before .before .before .before .clear .ensures) _ _ _ _ (tree-is (c .before .nodes .given .1) (c .before .before .before .before .before .judge .ensures))
 
 same-length-2 : tie.Need-same-length-2
-same-length-2 c = c .before .before .clear2 .kept .0 ∙ c .before .before .before .before .before .before .before .before .before .judge .kept .1 .1 .1 .0 ∙ c .before .before .before .before .before .before .before .before .before .before .before .before .before .before .clear .kept .0
+same-length-2 c = c .before .before .clear2 .kept .0 ∙ c .before .before .before .before .before .before .before .before .before .judge .kept .1 .1 .0 ∙ c .before .before .before .before .before .before .before .before .before .before .before .before .before .before .clear .kept .0
 
 returns-2 : tie.Need-returns-2
-returns-2 c = read-refused (c .before .before .before .before .before .before .before .before .before .before .before .before .before .before .before .before .before .before .args .sw) (c .before .before .before .before .before .before .before .before .before .before .before .before .before .before .before .before .before .before .args .text .now) (length (c .before .before .before .before .before .before .before .before .before .before .before .before .before .before .before .before .before .before .args .table .now)) _ (at-words _ _ _ (c .before .before .before .before .before .before .before .before .before .before .before .node-limit .ensures) (c .before .before .before .before .before .before .before .before .before .before .before .before .before .before .clear .kept .0)) _ (c .before .before .before .before .before .before .before .before .before .before .before .before .before .before .clear .ensures) (c .before .before .before .before .before .before .before .before .before .judge .last .1 .1 .1 .0) _ _ _ (c .before .before .before .before .before .before .before .before .before .judge .kept .1 .1 .1 .0) (c .before .before .clear2 .ensures) (tree-not (c .before .before .before .before .before .number .given .1) (c .before .before .before .before .before .before .before .before .before .judge .ensures))
+returns-2 c = read-refused (c .before .before .before .before .before .before .before .before .before .before .before .before .before .before .before .before .before .before .args .sw) (c .before .before .before .before .before .before .before .before .before .before .before .before .before .before .before .before .before .before .args .text .now) (length (c .before .before .before .before .before .before .before .before .before .before .before .before .before .before .before .before .before .before .args .table .now)) _ (at-words _ _ _ (c .before .before .before .before .before .before .before .before .before .before .before .node-limit .ensures) (c .before .before .before .before .before .before .before .before .before .before .before .before .before .before .clear .kept .0)) _ (c .before .before .before .before .before .before .before .before .before .before .before .before .before .before .clear .ensures) (c .before .before .before .before .before .before .before .before .before .judge .last .1 .1 .0) _ _ _ (c .before .before .before .before .before .before .before .before .before .judge .kept .1 .1 .0) (c .before .before .clear2 .ensures) (tree-not (c .before .before .before .before .before .refusal .given .1) (c .before .before .before .before .before .before .before .before .before .judge .ensures))
 
 pub read-edition-spec : {M : Type 1} → statement M
 read-edition-spec =
@@ -57,7 +57,7 @@ read-edition-spec =
     node-limit-requires
     judge-requires
     enum-known-nodes
-    enum-known-number
+    enum-known-refusal
     clear-requires-2
     same-length
     returns

@@ -1,103 +1,73 @@
 use native.Mathlib.Omega.{arith}
-use mathlib.Core.Path.{_≡_, refl, sym, ap, _∙_}
-use mathlib.Core.Bool.{true≢false}
-use Prim.Native.Nat.{_≤_}
-use Rattle.reader.proofs.StepRun.{peeked}
-use Rattle.reader.proofs.BodyRun.{took, stops}
-use Rattle.reader.proofs.ReadRun.{whole-end, whole-fault, whole-stops, whole-taken, whole-more, whole-bad}
+use mathlib.Core.Path.{refl, sym, _∙_}
+use Prim.Native.Nat.{zero-le}
+use Rattle.reader.proofs.StepRun.{ahead-token}
+use Rattle.reader.proofs.BodyRun.{fresh-took, fresh-stops, fresh-ready}
+use Rattle.reader.proofs.ReadRun.{whole-none, whole-stops, whole-is}
 use borrow.Author.Needs.{needs}
 use Rattle.reader.proofs.read.read_whole.Statement.{statement}
 use Rattle.reader.proofs.read.read_whole.Tie as tie
 use Rattle.reader.proofs.read.read_whole.Reads as reads
 use Rattle.reader.proofs.read.read_whole.Lts as lts
-use Rattle.lexer.proofs.item.next_token.Reads as next-token-reads
+use Rattle.reader.proofs.items.token_from.Reads as token-from-reads
+use Rattle.reader.proofs.read.only_value.Reads as only-value-reads
+use Rattle.reader.proofs.values.fresh_due.Reads as fresh-due-reads
 use Rattle.reader.proofs.values.read_value.Reads as read-value-reads
 
-next-token-requires : tie.Need-next-token-requires
-next-token-requires c κs = search needs
+token-from-requires : tie.Need-token-from-requires
+token-from-requires c κs = search needs
 
-enum-known-kind : tie.Need-enum-known-kind
-enum-known-kind c = search needs
+enum-known-token : tie.Need-enum-known-token
+enum-known-token c = search needs
+
+fresh-due-requires : tie.Need-fresh-due-requires
+fresh-due-requires c κs = search needs
 
 read-value-requires : tie.Need-read-value-requires
-read-value-requires c κs = (c .before .before .before .before .before .before .before .pre, (peeked (c .before .before .before .before .before .before .before .args .sw) (c .before .before .before .before .before .before .before .args .text .now) 0 _ _ _ (omega arith) (sym (c .before .before .before .before .next-token .ensures) ∙ c .before .before .kind .given .1) .token, record { sane = λ _. refl; starts = omega arith; ends = omega arith }))
+read-value-requires c κs = let P = (ahead-token (c .before .before .before .before .before .before .before .before .args .rules .sw) (c .before .before .before .before .before .before .before .before .args .text .now) 0 _ (omega arith) (sym (c .before .before .before .before .before .token-from .ensures) ∙ c .before .before .before .token .given .1)) in
+    (fresh-ready (c .before .fresh-due .ensures) (c .before .before .before .before .before .before .before .before .pre .0) zero-le (omega (arith, P .token .ordered, P .token .inside, c .before .before .before .before .before .before .before .before .pre .1)) (λ _. refl) zero-le zero-le, (P .token, c .before .before .before .before .before .before .before .before .pre .1))
 
-enum-known-number : tie.Need-enum-known-number
-enum-known-number c = search needs
+enum-known-refusal : tie.Need-enum-known-refusal
+enum-known-refusal c = search needs
 
-enum-known-j : tie.Need-enum-known-j
-enum-known-j c = search needs
+enum-known-stop : tie.Need-enum-known-stop
+enum-known-stop c = search needs
 
-next-token-requires-2 : tie.Need-next-token-requires-2
-next-token-requires-2 c κs = search needs
+only-value-requires : tie.Need-only-value-requires
+only-value-requires c κs = search needs
 
-enum-told : tie.Need-enum-told
-enum-told c = search needs
-
-enum-known-p : tie.Need-enum-known-p
-enum-known-p c = search needs
-
-enum-known-f : tie.Need-enum-known-f
-enum-known-f c = search needs
-
-enum-known-place : tie.Need-enum-known-place
-enum-known-place c = search needs
-
-enum-known-number-2 : tie.Need-enum-known-number-2
-enum-known-number-2 c = search needs
+enum-known-refusal-2 : tie.Need-enum-known-refusal-2
+enum-known-refusal-2 c = search needs
 
 same-length : tie.Need-same-length
-same-length c = c .before .before .before .before .before .read-value .kept .1 .1 .1 .0
+same-length c = c .before .before .before .before .before .read-value .kept .1 .1 .0
 
 returns : tie.Need-returns
-returns c = record { is = whole-stops (c .before .before .before .before .before .before .before .before .before .before .before .before .before .args .sw) (c .before .before .before .before .before .before .before .before .before .before .before .before .before .args .limits) (c .before .before .before .before .before .before .before .before .before .before .before .before .before .args .any) (c .before .before .before .before .before .before .before .before .before .before .before .before .before .args .text .now) _ _ _ (peeked (c .before .before .before .before .before .before .before .before .before .before .before .before .before .args .sw) (c .before .before .before .before .before .before .before .before .before .before .before .before .before .args .text .now) 0 _ _ _ (omega arith) (sym (c .before .before .before .before .before .before .before .before .before .before .next-token .ensures) ∙ c .before .before .before .before .before .before .before .before .kind .given .1)) _ _ (stops (c .before .number .given .1) (c .before .before .before .before .before .read-value .ensures)) }
+returns c = record { is = whole-stops (c .before .before .before .before .before .before .before .before .before .before .before .before .before .before .args .rules .sw) (c .before .before .before .before .before .before .before .before .before .before .before .before .before .before .args .rules .limits) (c .before .before .before .before .before .before .before .before .before .before .before .before .before .before .args .any) (c .before .before .before .before .before .before .before .before .before .before .before .before .before .before .args .text .now) _ _ _ (ahead-token (c .before .before .before .before .before .before .before .before .before .before .before .before .before .before .args .rules .sw) (c .before .before .before .before .before .before .before .before .before .before .before .before .before .before .args .text .now) 0 _ (omega arith) (sym (c .before .before .before .before .before .before .before .before .before .before .before .token-from .ensures) ∙ c .before .before .before .before .before .before .before .before .before .token .given .1)) _ _ (fresh-stops (c .before .before .before .before .before .before .before .fresh-due .ensures) (c .before .refusal .given .1) (c .before .before .before .before .before .read-value .ensures)) }
 
 same-length-2 : tie.Need-same-length-2
-same-length-2 c = c .before .before .before .before .before .before .before .before .read-value .kept .1 .1 .1 .0
+same-length-2 c = c .before .before .before .before .before .before .read-value .kept .1 .1 .0
 
 returns-2 : tie.Need-returns-2
-returns-2 c = record { is = whole-taken (c .before .before .before .before .before .before .before .before .before .before .before .before .before .before .before .before .args .sw) (c .before .before .before .before .before .before .before .before .before .before .before .before .before .before .before .before .args .limits) (c .before .before .before .before .before .before .before .before .before .before .before .before .before .before .before .before .args .any) (c .before .before .before .before .before .before .before .before .before .before .before .before .before .before .before .before .args .text .now) _ _ _ (peeked (c .before .before .before .before .before .before .before .before .before .before .before .before .before .before .before .before .args .sw) (c .before .before .before .before .before .before .before .before .before .before .before .before .before .before .before .before .args .text .now) 0 _ _ _ (omega arith) (sym (c .before .before .before .before .before .before .before .before .before .before .before .before .before .next-token .ensures) ∙ c .before .before .before .before .before .before .before .before .before .before .before .kind .given .1)) _ _ _ _ (took (c .before .before .before .before .j .given .1) (c .before .before .before .before .before .before .before .before .read-value .ensures)) _ (sym (c .before .before .next-token2 .ensures) ∙ c .enum-told .given .1) }
-
-same-length-3 : tie.Need-same-length-3
-same-length-3 c = c .before .before .before .before .before .before .before .before .before .read-value .kept .1 .1 .1 .0
+returns-2 c = record { is = whole-is (c .before .before .before .before .before .before .before .before .before .before .before .before .before .before .before .args .rules .sw) (c .before .before .before .before .before .before .before .before .before .before .before .before .before .before .before .args .rules .limits) (c .before .before .before .before .before .before .before .before .before .before .before .before .before .before .before .args .any) (c .before .before .before .before .before .before .before .before .before .before .before .before .before .before .before .args .text .now) _ _ _ (ahead-token (c .before .before .before .before .before .before .before .before .before .before .before .before .before .before .before .args .rules .sw) (c .before .before .before .before .before .before .before .before .before .before .before .before .before .before .before .args .text .now) 0 _ (omega arith) (sym (c .before .before .before .before .before .before .before .before .before .before .before .before .token-from .ensures) ∙ c .before .before .before .before .before .before .before .before .before .before .token .given .1)) _ _ _ _ (fresh-took (c .before .before .before .before .before .before .before .before .fresh-due .ensures) (c .before .before .stop .given .1) (c .before .before .before .before .before .before .read-value .ensures)) _ (c .only-value .ensures) }
 
 returns-3 : tie.Need-returns-3
-returns-3 c = record { is = whole-more (c .before .before .before .before .before .before .before .before .before .before .before .before .before .before .before .before .before .args .sw) (c .before .before .before .before .before .before .before .before .before .before .before .before .before .before .before .before .before .args .limits) (c .before .before .before .before .before .before .before .before .before .before .before .before .before .before .before .before .before .args .any) (c .before .before .before .before .before .before .before .before .before .before .before .before .before .before .before .before .before .args .text .now) _ _ _ (peeked (c .before .before .before .before .before .before .before .before .before .before .before .before .before .before .before .before .before .args .sw) (c .before .before .before .before .before .before .before .before .before .before .before .before .before .before .before .before .before .args .text .now) 0 _ _ _ (omega arith) (sym (c .before .before .before .before .before .before .before .before .before .before .before .before .before .before .next-token .ensures) ∙ c .before .before .before .before .before .before .before .before .before .before .before .before .kind .given .1)) _ _ _ _ (took (c .before .before .before .before .before .j .given .1) (c .before .before .before .before .before .before .before .before .before .read-value .ensures)) _ _ _ (peeked (c .before .before .before .before .before .before .before .before .before .before .before .before .before .before .before .before .before .args .sw) (c .before .before .before .before .before .before .before .before .before .before .before .before .before .before .before .before .before .args .text .now) _ _ _ _ (took (c .before .before .before .before .before .j .given .1) (c .before .before .before .before .before .before .before .before .before .read-value .ensures) .inside) (sym (c .before .before .before .next-token2 .ensures) ∙ c .before .p .given .1)) }
-
-same-length-4 : tie.Need-same-length-4
-same-length-4 c = c .before .before .before .before .before .before .before .before .before .read-value .kept .1 .1 .1 .0
-
-returns-4 : tie.Need-returns-4
-returns-4 c = record { is = whole-bad (c .before .before .before .before .before .before .before .before .before .before .before .before .before .before .before .before .before .args .sw) (c .before .before .before .before .before .before .before .before .before .before .before .before .before .before .before .before .before .args .limits) (c .before .before .before .before .before .before .before .before .before .before .before .before .before .before .before .before .before .args .any) (c .before .before .before .before .before .before .before .before .before .before .before .before .before .before .before .before .before .args .text .now) _ _ _ (peeked (c .before .before .before .before .before .before .before .before .before .before .before .before .before .before .before .before .before .args .sw) (c .before .before .before .before .before .before .before .before .before .before .before .before .before .before .before .before .before .args .text .now) 0 _ _ _ (omega arith) (sym (c .before .before .before .before .before .before .before .before .before .before .before .before .before .before .next-token .ensures) ∙ c .before .before .before .before .before .before .before .before .before .before .before .before .kind .given .1)) _ _ _ _ (took (c .before .before .before .before .before .j .given .1) (c .before .before .before .before .before .before .before .before .before .read-value .ensures)) _ _ (sym (c .before .before .before .next-token2 .ensures) ∙ c .before .f .given .1) }
-
-returns-5 : tie.Need-returns-5
-returns-5 c = record { is = whole-end (c .before .before .before .before .before .before .args .sw) (c .before .before .before .before .before .before .args .limits) (c .before .before .before .before .before .before .args .any) (c .before .before .before .before .before .before .args .text .now) _ (sym (c .before .before .before .next-token .ensures) ∙ c .before .place .given .1) }
-
-returns-6 : tie.Need-returns-6
-returns-6 c = record { is = whole-fault (c .before .before .before .before .before .before .args .sw) (c .before .before .before .before .before .before .args .limits) (c .before .before .before .before .before .before .args .any) (c .before .before .before .before .before .before .args .text .now) _ _ (sym (c .before .before .before .next-token .ensures) ∙ c .before .number2 .given .1) }
+returns-3 c = record { is = whole-none (c .before .before .before .before .before .before .args .rules .sw) (c .before .before .before .before .before .before .args .rules .limits) (c .before .before .before .before .before .before .args .any) (c .before .before .before .before .before .before .args .text .now) _ (sym (c .before .before .before .token-from .ensures) ∙ c .before .refusal2 .given .1) }
 
 pub read-whole-spec : {M : Type 1} → statement M
 read-whole-spec =
     tie.close
     (tie.spec
-    next-token-requires
-    enum-known-kind
+    token-from-requires
+    enum-known-token
+    fresh-due-requires
     read-value-requires
-    enum-known-number
-    enum-known-j
-    next-token-requires-2
-    enum-told
-    enum-known-p
-    enum-known-f
-    enum-known-place
-    enum-known-number-2
+    enum-known-refusal
+    enum-known-stop
+    only-value-requires
+    enum-known-refusal-2
     same-length
     returns
     same-length-2
     returns-2
-    same-length-3
-    returns-3
-    same-length-4
-    returns-4
-    returns-5
-    returns-6)
+    returns-3)

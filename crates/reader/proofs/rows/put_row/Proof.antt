@@ -36,6 +36,9 @@ mul-table-2 c = omega arith
 slice-write-table-2 : tie.Need-slice-write-table-2
 slice-write-table-2 c = simp length-set (omega arith)
 
+cast-table : tie.Need-cast-table
+cast-table c = search needs
+
 add-table-2 : tie.Need-add-table-2
 add-table-2 c = omega arith
 
@@ -44,6 +47,9 @@ mul-table-3 c = omega arith
 
 slice-write-table-3 : tie.Need-slice-write-table-3
 slice-write-table-3 c = simp length-set (omega arith)
+
+cast-table-2 : tie.Need-cast-table-2
+cast-table-2 c = search needs
 
 add-table-3 : tie.Need-add-table-3
 add-table-3 c = omega arith
@@ -54,6 +60,9 @@ mul-table-4 c = omega arith
 slice-write-table-4 : tie.Need-slice-write-table-4
 slice-write-table-4 c = simp length-set (omega arith)
 
+cast-table-3 : tie.Need-cast-table-3
+cast-table-3 c = search needs
+
 add-table-4 : tie.Need-add-table-4
 add-table-4 c = omega arith
 
@@ -62,6 +71,9 @@ mul-table-5 c = omega arith
 
 slice-write-table-5 : tie.Need-slice-write-table-5
 slice-write-table-5 c = simp length-set (omega arith)
+
+cast-table-4 : tie.Need-cast-table-4
+cast-table-4 c = search needs
 
 add-table-5 : tie.Need-add-table-5
 add-table-5 c = omega arith
@@ -72,6 +84,9 @@ mul-table-6 c = omega arith
 slice-write-table-6 : tie.Need-slice-write-table-6
 slice-write-table-6 c = simp length-set (omega arith)
 
+cast-table-5 : tie.Need-cast-table-5
+cast-table-5 c = search needs
+
 add-table-6 : tie.Need-add-table-6
 add-table-6 c = omega arith
 
@@ -81,6 +96,9 @@ mul-table-7 c = omega arith
 slice-write-table-7 : tie.Need-slice-write-table-7
 slice-write-table-7 c = simp length-set (omega arith)
 
+cast-table-6 : tie.Need-cast-table-6
+cast-table-6 c = search needs
+
 add-table-7 : tie.Need-add-table-7
 add-table-7 c = omega arith
 
@@ -89,6 +107,9 @@ mul-table-8 c = omega arith
 
 slice-write-table-8 : tie.Need-slice-write-table-8
 slice-write-table-8 c = simp length-set (omega arith)
+
+cast-table-7 : tie.Need-cast-table-7
+cast-table-7 c = search needs
 
 add-table-8 : tie.Need-add-table-8
 add-table-8 c = omega arith
@@ -142,24 +163,31 @@ put-row-spec =
     add-table
     mul-table-2
     slice-write-table-2
+    cast-table
     add-table-2
     mul-table-3
     slice-write-table-3
+    cast-table-2
     add-table-3
     mul-table-4
     slice-write-table-4
+    cast-table-3
     add-table-4
     mul-table-5
     slice-write-table-5
+    cast-table-4
     add-table-5
     mul-table-6
     slice-write-table-6
+    cast-table-5
     add-table-6
     mul-table-7
     slice-write-table-7
+    cast-table-6
     add-table-7
     mul-table-8
     slice-write-table-8
+    cast-table-7
     add-table-8
     mul-table-9
     slice-write-table-9

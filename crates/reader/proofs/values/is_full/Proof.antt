@@ -6,7 +6,7 @@ use Rattle.reader.proofs.values.is_full.Reads as reads
 use Rattle.reader.proofs.values.is_full.Lts as lts
 
 returns : tie.Need-returns
-returns c = rw (c .before .if1 .taken)
+returns c = rw (c .before .before .if1 .taken)
 
 returns-2 : tie.Need-returns-2
 returns-2 c = rw (c .if1 .left)

@@ -1,0 +1,407 @@
+use borrow.Author.Needs.{needs}
+use native.Mathlib.Omega.{arith}
+use mathlib.Core.Path.{_≡_, refl, sym, _∙_}
+use mathlib.Core.List.{List, []}
+use Prim.Native.Nat.{ℕ, _+_, _*_, _-_}
+use lib.ListN.{length}
+use borrow.Author.Tests.{not-true, not-false}
+use Rattle.reader.specs.declared.tree.Begin.the-variants as Z
+use Rattle.reader.specs.declared.items.After.the-variants as X
+use Rattle.reader.specs.Tree.{Forest, nil}
+use Rattle.reader.specs.Syntax.{container}
+use Rattle.reader.specs.Internal.Values.{labelOf, opened}
+use Rattle.reader.proofs.StepRun.{past-token}
+use Rattle.reader.proofs.ItemRun.{told-at, told-not, next-is}
+use Rattle.reader.proofs.BodyRun.{Within, took, stops, due-as, begins-as, value-is, last-is, wrong-is, fresh-took, fresh-stops, fresh-ready, body-look, body-value, body-more, body-over, body-last, body-wrong, body-stop, body-off, body-took, node-left, open-deep, open-full, body-start}
+use Rattle.reader.proofs.ValueRun.{begun-as, leaf-read, nothing-stops, named-ready, name-twice, name-full, name-not, name-stop, name-shut-not, name-took}
+use Prim.Native.Nat.{ℕ, _<_}
+use borrow.Fn.Kinds.{In}
+use borrow.Fn.PlainCycle.{Measures, is, falls, and}
+use Rattle.reader.proofs.values.read_container.Reads as read-container
+use Rattle.reader.proofs.values.read_container.Kinds as read-container-kinds
+use Rattle.reader.proofs.values.+read_container+read_identifier+read_value.Lts-read_container as read-container-lts
+use Rattle.reader.proofs.values.read_identifier.Reads as read-identifier
+use Rattle.reader.proofs.values.read_identifier.Kinds as read-identifier-kinds
+use Rattle.reader.proofs.values.+read_container+read_identifier+read_value.Lts-read_identifier as read-identifier-lts
+use Rattle.reader.proofs.values.read_value.Reads as read-value
+use Rattle.reader.proofs.values.read_value.Kinds as read-value-kinds
+use Rattle.reader.proofs.values.+read_container+read_identifier+read_value.Lts-read_value as read-value-lts
+use Rattle.reader.proofs.begin.begin_of.Reads as begin-of-reads
+use Rattle.reader.proofs.items.after_item.Reads as after-item-reads
+use Rattle.reader.proofs.items.next_item.Reads as next-item-reads
+use Rattle.reader.proofs.items.one_mark.Reads as one-mark-reads
+use Rattle.reader.proofs.items.token_after.Reads as token-after-reads
+use Rattle.reader.proofs.rows.put_stop.Reads as put-stop-reads
+use Rattle.reader.proofs.values.child_due.Reads as child-due-reads
+use Rattle.reader.proofs.values.is_full.Reads as is-full-reads
+use Rattle.reader.proofs.values.named_due.Reads as named-due-reads
+use Rattle.reader.proofs.values.put_branch.Reads as put-branch-reads
+use Rattle.reader.proofs.values.put_leaf.Reads as put-leaf-reads
+use Rattle.reader.proofs.values.+read_container+read_identifier+read_value.{statement}
+use Rattle.reader.proofs.values.+read_container+read_identifier+read_value.Tie.{close}
+
+abbrev μ-read-container : Measures 2 read-container-kinds.ps ℕ
+μ-read-container κs a = 2 * (length (a .1 .0 .now) - a .1 .1 .1 .1 .1 .0 .start)
+
+abbrev μ-read-identifier : Measures 2 read-identifier-kinds.ps ℕ
+μ-read-identifier κs a = 2 * (length (a .1 .0 .now) - a .1 .1 .1 .1 .0 .start)
+
+abbrev μ-read-value : Measures 2 read-value-kinds.ps ℕ
+μ-read-value κs a = 2 * (length (a .1 .0 .now) - a .1 .1 .1 .1 .0 .start) + 1
+
+abbrev read-container-at : ℕ → In 2 read-container-kinds.ps
+read-container-at t =
+    and
+    2
+    read-container-kinds.ps
+    (is 2 read-container-kinds.ps μ-read-container t)
+    read-container.Pre
+
+abbrev read-container-below : ℕ → In 2 read-container-kinds.ps
+read-container-below t =
+    and
+    2
+    read-container-kinds.ps
+    (falls 2 read-container-kinds.ps _<_ μ-read-container t)
+    read-container.Pre
+
+abbrev read-identifier-at : ℕ → In 2 read-identifier-kinds.ps
+read-identifier-at t =
+    and
+    2
+    read-identifier-kinds.ps
+    (is 2 read-identifier-kinds.ps μ-read-identifier t)
+    read-identifier.Pre
+
+abbrev read-identifier-below : ℕ → In 2 read-identifier-kinds.ps
+read-identifier-below t =
+    and
+    2
+    read-identifier-kinds.ps
+    (falls 2 read-identifier-kinds.ps _<_ μ-read-identifier t)
+    read-identifier.Pre
+
+abbrev read-value-at : ℕ → In 2 read-value-kinds.ps
+read-value-at t =
+    and 2 read-value-kinds.ps (is 2 read-value-kinds.ps μ-read-value t) read-value.Pre
+
+abbrev read-value-below : ℕ → In 2 read-value-kinds.ps
+read-value-below t =
+    and 2 read-value-kinds.ps (falls 2 read-value-kinds.ps _<_ μ-read-value t) read-value.Pre
+
+-- what `read_container` knows of what it calls, below the measure t
+abbrev read-container-calls : ℕ → read-container-lts.Claims
+read-container-calls t = (is-full-reads.Asked, is-full-reads.Learnt, next-item-reads.Asked, next-item-reads.Learnt, put-branch-reads.Asked, put-branch-reads.Learnt, child-due-reads.Asked, child-due-reads.Learnt, read-value-below t, read-value.Post, after-item-reads.Asked, after-item-reads.Learnt)
+
+-- what `read_identifier` knows of what it calls, below the measure t
+abbrev read-identifier-calls : ℕ → read-identifier-lts.Claims
+read-identifier-calls t = (named-due-reads.Asked, named-due-reads.Learnt, token-after-reads.Asked, token-after-reads.Learnt, read-value-below t, read-value.Post, one-mark-reads.Asked, one-mark-reads.Learnt, put-stop-reads.Asked, put-stop-reads.Learnt)
+
+-- what `read_value` knows of what it calls, below the measure t
+abbrev read-value-calls : ℕ → read-value-lts.Claims
+read-value-calls t = (begin-of-reads.Asked, begin-of-reads.Learnt, read-container-below t, read-container.Post, put-leaf-reads.Asked, put-leaf-reads.Learnt, read-identifier-below t, read-identifier.Post)
+
+abbrev read-container-Inv-loop : read-container-lts.InvT-loop
+read-container-Inv-loop rules text table₀ due kind place spot first from₀ children₀ table from children = (ts : Forest) × (ks : List (List ℕ)) × (children .first ≡ due .spot .node + 1) × Within (rules .sw) (rules .limits) text kind (labelOf (due .label)) (opened (rules .sw) (rules .limits) text place from₀ (due .fresh) (due .any) (labelOf (due .label)) (due .spot .node) (container kind)) place (due .spot .depth) (due .spot .node) table₀ ts ks from (children .next) (children .count) table
+
+abbrev read-container-μ-loop : read-container-lts.MeasureT-loop
+read-container-μ-loop rules text table₀ due kind place spot first from₀ children₀ table from children = length text - from
+
+read-container-returns : (t : ℕ) → read-container-lts.Need-returns (read-container-calls t) (read-container-at t) read-container.Post read-container-Inv-loop read-container-μ-loop
+read-container-returns t c = record { is = open-deep _ _ _ _ _ (c .before .before .before .before .before .before .args .due .fresh) (c .before .before .before .before .before .before .args .due .any) _ _ _ (c .before .before .before .before .before .before .args .kind) (c .if1 .taken) }
+
+read-container-is-full-requires : (t : ℕ) → read-container-lts.Need-is-full-requires (read-container-calls t) (read-container-at t) read-container.Post read-container-Inv-loop read-container-μ-loop
+read-container-is-full-requires t c κs = search needs
+
+read-container-returns-2 : (t : ℕ) → read-container-lts.Need-returns-2 (read-container-calls t) (read-container-at t) read-container.Post read-container-Inv-loop read-container-μ-loop
+read-container-returns-2 t c = record { is = open-full _ _ _ _ _ (c .before .before .before .before .before .before .before .before .args .due .fresh) (c .before .before .before .before .before .before .before .before .args .due .any) _ _ _ (c .before .before .before .before .before .before .before .before .args .kind) (c .before .before .if1 .left) (sym (c .before .is-full .ensures) ∙ c .if2 .taken) }
+
+read-container-add-first : (t : ℕ) → read-container-lts.Need-add-first (read-container-calls t) (read-container-at t) read-container.Post read-container-Inv-loop read-container-μ-loop
+read-container-add-first t c = let w = node-left _ (c .before .before .before .before .before .before .before .before .before .args .due .fresh) (c .before .before .before .before .before .before .before .before .before .args .due .spot .node) (sym (c .before .before .is-full .ensures) ∙ c .before .if2 .left) (c .before .before .before .before .before .before .before .before .before .pre .1 .0 .counted) in omega (arith, c .before .before .before .before .before .before .before .before .before .pre .1 .0 .table .small)
+
+read-container-loop-holds : (t : ℕ) → read-container-lts.Need-loop-holds (read-container-calls t) (read-container-at t) read-container.Post read-container-Inv-loop read-container-μ-loop
+read-container-loop-holds t c = (nil, [], refl, body-start (c .before .before .before .before .before .before .before .before .before .args .rules .sw) (c .before .before .before .before .before .before .before .before .before .args .rules .limits) (c .before .before .before .before .before .before .before .before .before .args .text .now) (c .before .before .before .before .before .before .before .before .before .args .bracket .start) (c .before .before .before .before .before .before .before .before .before .args .bracket .stop) (c .before .before .before .before .before .before .before .before .before .args .due .fresh) (c .before .before .before .before .before .before .before .before .before .args .due .any) (labelOf (c .before .before .before .before .before .before .before .before .before .args .due .label)) (c .before .before .before .before .before .before .before .before .before .args .due .spot .node) (c .before .before .before .before .before .before .before .before .before .args .due .spot .depth) (c .before .before .before .before .before .before .before .before .before .args .kind) _ (c .before .before .before .if1 .left) (sym (c .before .before .is-full .ensures) ∙ c .before .if2 .left) (node-left _ (c .before .before .before .before .before .before .before .before .before .args .due .fresh) (c .before .before .before .before .before .before .before .before .before .args .due .spot .node) (sym (c .before .before .is-full .ensures) ∙ c .before .if2 .left) (c .before .before .before .before .before .before .before .before .before .pre .1 .0 .counted)) (c .before .before .before .before .before .before .before .before .before .pre .1 .1 .ordered) (c .before .before .before .before .before .before .before .before .before .pre .1 .1 .inside) (c .before .before .before .before .before .before .before .before .before .pre .1 .0 .table .room))
+
+read-container-next-item-requires : (t : ℕ) → read-container-lts.Need-next-item-requires (read-container-calls t) (read-container-at t) read-container.Post read-container-Inv-loop read-container-μ-loop
+read-container-next-item-requires t c κs = body-look (c .before .loop .inv .2) (c .before .before .before .before .before .before .before .before .before .before .before .pre .1 .1 .short) (c .before .loop .inv .3)
+
+read-container-enum-known-refusal : (t : ℕ) → read-container-lts.Need-enum-known-refusal (read-container-calls t) (read-container-at t) read-container.Post read-container-Inv-loop read-container-μ-loop
+read-container-enum-known-refusal t c = search needs
+
+read-container-same-length : (t : ℕ) → read-container-lts.Need-same-length (read-container-calls t) (read-container-at t) read-container.Post read-container-Inv-loop read-container-μ-loop
+read-container-same-length t c = c .before .before .before .before .before .loop .inv .3 .long
+
+read-container-returns-3 : (t : ℕ) → read-container-lts.Need-returns-3 (read-container-calls t) (read-container-at t) read-container.Post read-container-Inv-loop read-container-μ-loop
+read-container-returns-3 t c = record { is = body-wrong (c .before .before .before .before .before .loop .inv .3) (wrong-is (c .before .before .before .before .before .loop .inv .2) (c .before .refusal .given .1) (c .before .before .before .next-item .ensures)) }
+
+read-container-enum-known-end : (t : ℕ) → read-container-lts.Need-enum-known-end (read-container-calls t) (read-container-at t) read-container.Post read-container-Inv-loop read-container-μ-loop
+read-container-enum-known-end t c = search needs
+
+read-container-put-branch-requires : (t : ℕ) → read-container-lts.Need-put-branch-requires (read-container-calls t) (read-container-at t) read-container.Post read-container-Inv-loop read-container-μ-loop
+read-container-put-branch-requires t c κs = let L = last-is (c .before .before .before .before .before .before .loop .inv .2) (c .before .before .end .given .1) (c .before .before .before .before .next-item .ensures) in
+    (record { row = omega (arith, c .before .before .before .before .before .before .loop .inv .3 .grew, c .before .before .before .before .before .before .loop .inv .3 .below, c .before .before .before .before .before .before .loop .inv .3 .room, c .before .before .before .before .before .before .loop .inv .3 .long); label = c .before .before .before .before .before .before .before .before .before .before .before .before .before .before .before .before .pre .1 .0 .label; stop-low = omega (arith, L .inside, c .before .before .before .before .before .before .before .before .before .before .before .before .before .before .before .before .pre .1 .1 .short); next-low = omega (arith, c .before .before .before .before .before .before .loop .inv .3 .below, c .before .before .before .before .before .before .before .before .before .before .before .before .before .before .before .before .pre .1 .0 .table .small) }, omega (arith, c .before .before .before .before .before .before .loop .inv .3 .few))
+
+read-container-same-length-2 : (t : ℕ) → read-container-lts.Need-same-length-2 (read-container-calls t) (read-container-at t) read-container.Post read-container-Inv-loop read-container-μ-loop
+read-container-same-length-2 t c = c .before .before .put-branch .kept .0 ∙ c .before .before .before .before .before .before .before .before .before .loop .inv .3 .long
+
+read-container-returns-4 : (t : ℕ) → read-container-lts.Need-returns-4 (read-container-calls t) (read-container-at t) read-container.Post read-container-Inv-loop read-container-μ-loop
+read-container-returns-4 t c = body-took (c .before .before .before .before .before .before .before .before .before .before .before .before .before .before .before .before .before .before .before .pre .1 .0 .label) (body-last (c .before .before .before .before .before .before .before .before .before .loop .inv .3) (last-is (c .before .before .before .before .before .before .before .before .before .loop .inv .2) (c .before .before .before .before .before .end .given .1) (c .before .before .before .before .before .before .before .next-item .ensures))) (c .before .before .put-branch .ensures .0) (c .before .before .put-branch .ensures .1)
+
+read-container-enum-known-token : (t : ℕ) → read-container-lts.Need-enum-known-token (read-container-calls t) (read-container-at t) read-container.Post read-container-Inv-loop read-container-μ-loop
+read-container-enum-known-token t c = search needs
+
+read-container-child-due-requires : (t : ℕ) → read-container-lts.Need-child-due-requires (read-container-calls t) (read-container-at t) read-container.Post read-container-Inv-loop read-container-μ-loop
+read-container-child-due-requires t c κs = let w = node-left _ (c .before .before .before .before .before .before .before .before .before .before .before .before .before .before .before .args .due .fresh) (c .before .before .before .before .before .before .before .before .before .before .before .before .before .before .before .args .due .spot .node) (sym (c .before .before .before .before .before .before .before .before .is-full .ensures) ∙ c .before .before .before .before .before .before .before .if2 .left) (c .before .before .before .before .before .before .before .before .before .before .before .before .before .before .before .pre .1 .0 .counted) in (omega (arith, c .before .before .before .before .before .before .before .before .before .if1 .left), omega (arith, c .before .before .before .before .before .before .before .before .before .before .before .before .before .before .before .pre .1 .0 .table .small))
+
+read-container-read-value-requires : (t : ℕ) → read-container-lts.Need-read-value-requires (read-container-calls t) (read-container-at t) read-container.Post read-container-Inv-loop read-container-μ-loop
+read-container-read-value-requires t c κs = let I = value-is (c .before .before .before .before .before .before .before .loop .inv .2) (c .before .before .before .token .given .1) (c .before .before .before .before .before .next-item .ensures) in
+    let g : 2 * (length (c .before .before .before .before .before .before .before .before .before .before .before .before .before .before .before .before .before .args .text .now) - c .before .before .before .token .given .0 .0 .start) + 1 < t = omega (arith, c .before .before .before .before .before .before .before .before .before .before .before .before .before .before .before .before .before .pre .0, I .ahead, I .token .ordered, I .token .inside, c .before .before .before .before .before .before .before .loop .inv .3 .ahead) in (
+      g,
+      (
+        fresh-ready (c .before .child-due .ensures) (record { room = omega (arith, c .before .before .before .before .before .before .before .loop .inv .3 .room, c .before .before .before .before .before .before .before .loop .inv .3 .long); small = c .before .before .before .before .before .before .before .before .before .before .before .before .before .before .before .before .before .pre .1 .0 .table .small }) (c .before .before .before .before .before .before .before .loop .inv .3 .below) (omega (arith, I .token .ordered, I .token .inside, c .before .before .before .before .before .before .before .before .before .before .before .before .before .before .before .before .before .pre .1 .1 .short)) (I .sane) (I .small .0) (I .small .1),
+        (I .token, c .before .before .before .before .before .before .before .before .before .before .before .before .before .before .before .before .before .pre .1 .1 .short),
+      ),
+    )
+
+read-container-enum-known-refusal-2 : (t : ℕ) → read-container-lts.Need-enum-known-refusal-2 (read-container-calls t) (read-container-at t) read-container.Post read-container-Inv-loop read-container-μ-loop
+read-container-enum-known-refusal-2 t c = search needs
+
+read-container-same-length-3 : (t : ℕ) → read-container-lts.Need-same-length-3 (read-container-calls t) (read-container-at t) read-container.Post read-container-Inv-loop read-container-μ-loop
+read-container-same-length-3 t c = c .before .before .before .before .before .read-value .kept .1 .1 .0 ∙ c .before .before .before .before .before .before .before .before .before .before .before .before .before .loop .inv .3 .long
+
+read-container-returns-5 : (t : ℕ) → read-container-lts.Need-returns-5 (read-container-calls t) (read-container-at t) read-container.Post read-container-Inv-loop read-container-μ-loop
+read-container-returns-5 t c = record { is = body-stop (c .before .before .before .before .before .before .before .before .before .before .before .before .before .loop .inv .3) (value-is (c .before .before .before .before .before .before .before .before .before .before .before .before .before .loop .inv .2) (c .before .before .before .before .before .before .before .before .before .token .given .1) (c .before .before .before .before .before .before .before .before .before .before .before .next-item .ensures)) (fresh-stops (c .before .before .before .before .before .before .before .child-due .ensures) (c .before .refusal2 .given .1) (c .before .before .before .before .before .read-value .ensures)) }
+
+read-container-enum-known-stop : (t : ℕ) → read-container-lts.Need-enum-known-stop (read-container-calls t) (read-container-at t) read-container.Post read-container-Inv-loop read-container-μ-loop
+read-container-enum-known-stop t c = search needs
+
+read-container-add-children : (t : ℕ) → read-container-lts.Need-add-children (read-container-calls t) (read-container-at t) read-container.Post read-container-Inv-loop read-container-μ-loop
+read-container-add-children t c = omega (arith, c .before .before .before .before .before .before .before .before .before .before .before .before .before .before .loop .inv .3 .few, c .before .before .before .before .before .before .before .before .before .before .before .before .before .before .loop .inv .3 .below, c .before .before .before .before .before .before .before .before .before .before .before .before .before .before .before .before .before .before .before .before .before .before .before .before .pre .1 .0 .table .small)
+
+read-container-after-item-requires : (t : ℕ) → read-container-lts.Need-after-item-requires (read-container-calls t) (read-container-at t) read-container.Post read-container-Inv-loop read-container-μ-loop
+read-container-after-item-requires t c κs = search needs
+
+read-container-enum-known-refusal-3 : (t : ℕ) → read-container-lts.Need-enum-known-refusal-3 (read-container-calls t) (read-container-at t) read-container.Post read-container-Inv-loop read-container-μ-loop
+read-container-enum-known-refusal-3 t c = search needs
+
+read-container-same-length-4 : (t : ℕ) → read-container-lts.Need-same-length-4 (read-container-calls t) (read-container-at t) read-container.Post read-container-Inv-loop read-container-μ-loop
+read-container-same-length-4 t c = c .before .before .before .before .before .before .before .before .before .before .read-value .kept .1 .1 .0 ∙ c .before .before .before .before .before .before .before .before .before .before .before .before .before .before .before .before .before .before .loop .inv .3 .long
+
+read-container-returns-6 : (t : ℕ) → read-container-lts.Need-returns-6 (read-container-calls t) (read-container-at t) read-container.Post read-container-Inv-loop read-container-μ-loop
+read-container-returns-6 t c = record { is = body-off (body-value (c .before .before .before .before .before .before .before .before .before .before .before .before .before .before .before .before .before .before .loop .inv .3) (value-is (c .before .before .before .before .before .before .before .before .before .before .before .before .before .before .before .before .before .before .loop .inv .2) (c .before .before .before .before .before .before .before .before .before .before .before .before .before .before .token .given .1) (c .before .before .before .before .before .before .before .before .before .before .before .before .before .before .before .before .next-item .ensures)) (fresh-took (c .before .before .before .before .before .before .before .before .before .before .before .before .child-due .ensures) (c .before .before .before .before .before .before .stop .given .1) (c .before .before .before .before .before .before .before .before .before .before .read-value .ensures)) (c .before .before .before .before .before .before .before .before .before .before .read-value .kept .1 .1 .0)) (next-is (c .before .before .before .before .before .before .before .before .before .before .before .before .before .before .before .before .before .before .before .before .before .before .before .before .before .before .before .before .args .rules .sw) (c .before .before .before .before .before .before .before .before .before .before .before .before .before .before .before .before .before .before .before .before .before .before .before .before .before .before .before .before .args .text .now) (c .before .before .before .before .before .before .before .before .before .before .before .before .before .before .before .before .before .before .before .before .before .before .before .before .before .before .before .before .args .kind) _ ((fresh-took (c .before .before .before .before .before .before .before .before .before .before .before .before .child-due .ensures) (c .before .before .before .before .before .before .stop .given .1) (c .before .before .before .before .before .before .before .before .before .before .read-value .ensures)) .inside) (c .before .before .before .after-item .ensures) (X.Off _) (c .before .refusal3 .given .1)) }
+
+read-container-enum-known-end-2 : (t : ℕ) → read-container-lts.Need-enum-known-end-2 (read-container-calls t) (read-container-at t) read-container.Post read-container-Inv-loop read-container-μ-loop
+read-container-enum-known-end-2 t c = search needs
+
+read-container-put-branch-requires-2 : (t : ℕ) → read-container-lts.Need-put-branch-requires-2 (read-container-calls t) (read-container-at t) read-container.Post read-container-Inv-loop read-container-μ-loop
+read-container-put-branch-requires-2 t c κs = let B = body-value (c .before .before .before .before .before .before .before .before .before .before .before .before .before .before .before .before .before .before .before .loop .inv .3) (value-is (c .before .before .before .before .before .before .before .before .before .before .before .before .before .before .before .before .before .before .before .loop .inv .2) (c .before .before .before .before .before .before .before .before .before .before .before .before .before .before .before .token .given .1) (c .before .before .before .before .before .before .before .before .before .before .before .before .before .before .before .before .before .next-item .ensures)) (fresh-took (c .before .before .before .before .before .before .before .before .before .before .before .before .before .child-due .ensures) (c .before .before .before .before .before .before .before .stop .given .1) (c .before .before .before .before .before .before .before .before .before .before .before .read-value .ensures)) (c .before .before .before .before .before .before .before .before .before .before .before .read-value .kept .1 .1 .0) in let C = next-is (c .before .before .before .before .before .before .before .before .before .before .before .before .before .before .before .before .before .before .before .before .before .before .before .before .before .before .before .before .before .args .rules .sw) (c .before .before .before .before .before .before .before .before .before .before .before .before .before .before .before .before .before .before .before .before .before .before .before .before .before .before .before .before .before .args .text .now) (c .before .before .before .before .before .before .before .before .before .before .before .before .before .before .before .before .before .before .before .before .before .before .before .before .before .before .before .before .before .args .kind) _ ((fresh-took (c .before .before .before .before .before .before .before .before .before .before .before .before .before .child-due .ensures) (c .before .before .before .before .before .before .before .stop .given .1) (c .before .before .before .before .before .before .before .before .before .before .before .read-value .ensures)) .inside) (c .before .before .before .before .after-item .ensures) (X.Over _) (c .before .before .end2 .given .1) in
+    (record { row = omega (arith, B .grew, B .below, B .room, B .long); label = c .before .before .before .before .before .before .before .before .before .before .before .before .before .before .before .before .before .before .before .before .before .before .before .before .before .before .before .before .before .pre .1 .0 .label; stop-low = omega (arith, C .within, c .before .before .before .before .before .before .before .before .before .before .before .before .before .before .before .before .before .before .before .before .before .before .before .before .before .before .before .before .before .pre .1 .1 .short); next-low = omega (arith, B .below, c .before .before .before .before .before .before .before .before .before .before .before .before .before .before .before .before .before .before .before .before .before .before .before .before .before .before .before .before .before .pre .1 .0 .table .small) }, omega (arith, B .few))
+
+read-container-same-length-5 : (t : ℕ) → read-container-lts.Need-same-length-5 (read-container-calls t) (read-container-at t) read-container.Post read-container-Inv-loop read-container-μ-loop
+read-container-same-length-5 t c = c .before .before .put-branch2 .kept .0 ∙ c .before .before .before .before .before .before .before .before .before .before .before .before .before .before .read-value .kept .1 .1 .0 ∙ c .before .before .before .before .before .before .before .before .before .before .before .before .before .before .before .before .before .before .before .before .before .before .loop .inv .3 .long
+
+read-container-returns-7 : (t : ℕ) → read-container-lts.Need-returns-7 (read-container-calls t) (read-container-at t) read-container.Post read-container-Inv-loop read-container-μ-loop
+read-container-returns-7 t c = body-took (c .before .before .before .before .before .before .before .before .before .before .before .before .before .before .before .before .before .before .before .before .before .before .before .before .before .before .before .before .before .before .before .before .pre .1 .0 .label) (body-over (body-value (c .before .before .before .before .before .before .before .before .before .before .before .before .before .before .before .before .before .before .before .before .before .before .loop .inv .3) (value-is (c .before .before .before .before .before .before .before .before .before .before .before .before .before .before .before .before .before .before .before .before .before .before .loop .inv .2) (c .before .before .before .before .before .before .before .before .before .before .before .before .before .before .before .before .before .before .token .given .1) (c .before .before .before .before .before .before .before .before .before .before .before .before .before .before .before .before .before .before .before .before .next-item .ensures)) (fresh-took (c .before .before .before .before .before .before .before .before .before .before .before .before .before .before .before .before .child-due .ensures) (c .before .before .before .before .before .before .before .before .before .before .stop .given .1) (c .before .before .before .before .before .before .before .before .before .before .before .before .before .before .read-value .ensures)) (c .before .before .before .before .before .before .before .before .before .before .before .before .before .before .read-value .kept .1 .1 .0)) (next-is (c .before .before .before .before .before .before .before .before .before .before .before .before .before .before .before .before .before .before .before .before .before .before .before .before .before .before .before .before .before .before .before .before .args .rules .sw) (c .before .before .before .before .before .before .before .before .before .before .before .before .before .before .before .before .before .before .before .before .before .before .before .before .before .before .before .before .before .before .before .before .args .text .now) (c .before .before .before .before .before .before .before .before .before .before .before .before .before .before .before .before .before .before .before .before .before .before .before .before .before .before .before .before .before .before .before .before .args .kind) _ ((fresh-took (c .before .before .before .before .before .before .before .before .before .before .before .before .before .before .before .before .child-due .ensures) (c .before .before .before .before .before .before .before .before .before .before .stop .given .1) (c .before .before .before .before .before .before .before .before .before .before .before .before .before .before .read-value .ensures)) .inside) (c .before .before .before .before .before .before .before .after-item .ensures) (X.Over _) (c .before .before .before .before .before .end2 .given .1))) (c .before .before .put-branch2 .ensures .0) (c .before .before .put-branch2 .ensures .1)
+
+read-container-enum-known-comma : (t : ℕ) → read-container-lts.Need-enum-known-comma (read-container-calls t) (read-container-at t) read-container.Post read-container-Inv-loop read-container-μ-loop
+read-container-enum-known-comma t c = search needs
+
+read-container-loop-less : (t : ℕ) → read-container-lts.Need-loop-less (read-container-calls t) (read-container-at t) read-container.Post read-container-Inv-loop read-container-μ-loop
+read-container-loop-less t c = let T = fresh-took (c .before .before .before .before .before .before .before .before .before .before .before .before .child-due .ensures) (c .before .before .before .before .before .before .stop .given .1) (c .before .before .before .before .before .before .before .before .before .before .read-value .ensures) in let I = value-is (c .before .before .before .before .before .before .before .before .before .before .before .before .before .before .before .before .before .before .loop .inv .2) (c .before .before .before .before .before .before .before .before .before .before .before .before .before .before .token .given .1) (c .before .before .before .before .before .before .before .before .before .before .before .before .before .before .before .before .next-item .ensures) in let F = next-is (c .before .before .before .before .before .before .before .before .before .before .before .before .before .before .before .before .before .before .before .before .before .before .before .before .before .before .before .before .args .rules .sw) (c .before .before .before .before .before .before .before .before .before .before .before .before .before .before .before .before .before .before .before .before .before .before .before .before .before .before .before .before .args .text .now) (c .before .before .before .before .before .before .before .before .before .before .before .before .before .before .before .before .before .before .before .before .before .before .before .before .before .before .before .before .args .kind) _ ((fresh-took (c .before .before .before .before .before .before .before .before .before .before .before .before .child-due .ensures) (c .before .before .before .before .before .before .stop .given .1) (c .before .before .before .before .before .before .before .before .before .before .read-value .ensures)) .inside) (c .before .before .before .after-item .ensures) (X.More _) (c .before .comma .given .1) in omega (arith, T .ahead, I .ahead, F .ahead, F .within)
+
+read-container-loop-again : (t : ℕ) → read-container-lts.Need-loop-again (read-container-calls t) (read-container-at t) read-container.Post read-container-Inv-loop read-container-μ-loop
+read-container-loop-again t c = (_, _, c .before .before .before .before .before .before .before .before .before .before .before .before .before .before .before .before .before .before .loop .inv .2, body-more (body-value (c .before .before .before .before .before .before .before .before .before .before .before .before .before .before .before .before .before .before .loop .inv .3) (value-is (c .before .before .before .before .before .before .before .before .before .before .before .before .before .before .before .before .before .before .loop .inv .2) (c .before .before .before .before .before .before .before .before .before .before .before .before .before .before .token .given .1) (c .before .before .before .before .before .before .before .before .before .before .before .before .before .before .before .before .next-item .ensures)) (fresh-took (c .before .before .before .before .before .before .before .before .before .before .before .before .child-due .ensures) (c .before .before .before .before .before .before .stop .given .1) (c .before .before .before .before .before .before .before .before .before .before .read-value .ensures)) (c .before .before .before .before .before .before .before .before .before .before .read-value .kept .1 .1 .0)) (next-is (c .before .before .before .before .before .before .before .before .before .before .before .before .before .before .before .before .before .before .before .before .before .before .before .before .before .before .before .before .args .rules .sw) (c .before .before .before .before .before .before .before .before .before .before .before .before .before .before .before .before .before .before .before .before .before .before .before .before .before .before .before .before .args .text .now) (c .before .before .before .before .before .before .before .before .before .before .before .before .before .before .before .before .before .before .before .before .before .before .before .before .before .before .before .before .args .kind) _ ((fresh-took (c .before .before .before .before .before .before .before .before .before .before .before .before .child-due .ensures) (c .before .before .before .before .before .before .stop .given .1) (c .before .before .before .before .before .before .before .before .before .before .read-value .ensures)) .inside) (c .before .before .before .after-item .ensures) (X.More _) (c .before .comma .given .1)) (omega arith))
+
+read-identifier-returns : (t : ℕ) → read-identifier-lts.Need-returns (read-identifier-calls t) (read-identifier-at t) read-identifier.Post
+read-identifier-returns t c = record { is = name-twice _ _ _ _ _ (c .before .before .before .before .args .due .fresh) (c .before .before .before .before .args .due .any) _ _ _ (not-true _ (c .if1 .taken)) }
+
+read-identifier-returns-2 : (t : ℕ) → read-identifier-lts.Need-returns-2 (read-identifier-calls t) (read-identifier-at t) read-identifier.Post
+read-identifier-returns-2 t c = record { is = name-full (c .before .before .before .before .before .before .before .args .rules .sw) (c .before .before .before .before .before .before .before .args .rules .limits) (c .before .before .before .before .before .before .before .args .text .now) (c .before .before .before .before .before .before .before .args .name .start) (c .before .before .before .before .before .before .before .args .name .stop) (c .before .before .before .before .before .before .before .args .due .fresh) (c .before .before .before .before .before .before .before .args .due .any) (c .before .before .before .before .before .before .before .args .due .label) (c .before .before .before .before .before .before .before .args .due .spot .node) (c .before .before .before .before .before .before .before .args .due .spot .depth) (not-false (c .before .before .before .before .before .before .before .args .due .fresh) (c .before .before .before .if1 .left)) (c .if2 .taken) }
+
+read-identifier-named-due-requires : (t : ℕ) → read-identifier-lts.Need-named-due-requires (read-identifier-calls t) (read-identifier-at t) read-identifier.Post
+read-identifier-named-due-requires t c κs = search needs
+
+read-identifier-token-after-requires : (t : ℕ) → read-identifier-lts.Need-token-after-requires (read-identifier-calls t) (read-identifier-at t) read-identifier.Post
+read-identifier-token-after-requires t c κs = search needs
+
+read-identifier-enum-known-refusal : (t : ℕ) → read-identifier-lts.Need-enum-known-refusal (read-identifier-calls t) (read-identifier-at t) read-identifier.Post
+read-identifier-enum-known-refusal t c = search needs
+
+read-identifier-enum-known-token : (t : ℕ) → read-identifier-lts.Need-enum-known-token (read-identifier-calls t) (read-identifier-at t) read-identifier.Post
+read-identifier-enum-known-token t c = search needs
+
+read-identifier-read-value-requires : (t : ℕ) → read-identifier-lts.Need-read-value-requires (read-identifier-calls t) (read-identifier-at t) read-identifier.Post
+read-identifier-read-value-requires t c κs = let P = past-token (c .before .before .before .before .before .before .before .before .before .before .before .before .before .args .rules .sw) (c .before .before .before .before .before .before .before .before .before .before .before .before .before .args .text .now) (c .before .before .before .before .before .before .before .before .before .before .before .before .before .args .name .stop) 40 (c .before .before .before .before .before .before .before .before .before .before .before .before .before .pre .1 .1 .inside) _ (sym (c .before .before .before .before .token-after .ensures) ∙ c .before .before .token .given .1) in
+    let g : 2 * (length (c .before .before .before .before .before .before .before .before .before .before .before .before .before .args .text .now) - c .before .before .token .given .0 .0 .start) + 1 < t = omega (arith, c .before .before .before .before .before .before .before .before .before .before .before .before .before .pre .0, P .mark .ahead, P .mark .some, P .token .ahead, P .token .token .ordered, P .token .token .inside, c .before .before .before .before .before .before .before .before .before .before .before .before .before .pre .1 .1 .ordered) in (
+      g,
+      (named-ready (c .before .before .before .before .before .named-due .ensures) (c .before .before .before .before .before .before .before .before .before .before .before .before .before .pre .1 .0) (c .before .before .before .before .before .before .before .before .before .before .before .before .before .pre .1 .1) (c .before .before .before .before .before .before .if2 .left), (P .token .token, c .before .before .before .before .before .before .before .before .before .before .before .before .before .pre .1 .1 .short)),
+    )
+
+read-identifier-enum-known-refusal-2 : (t : ℕ) → read-identifier-lts.Need-enum-known-refusal-2 (read-identifier-calls t) (read-identifier-at t) read-identifier.Post
+read-identifier-enum-known-refusal-2 t c = search needs
+
+read-identifier-enum-known-stop : (t : ℕ) → read-identifier-lts.Need-enum-known-stop (read-identifier-calls t) (read-identifier-at t) read-identifier.Post
+read-identifier-enum-known-stop t c = search needs
+
+read-identifier-one-mark-requires : (t : ℕ) → read-identifier-lts.Need-one-mark-requires (read-identifier-calls t) (read-identifier-at t) read-identifier.Post
+read-identifier-one-mark-requires t c κs = search needs
+
+read-identifier-enum-known-refusal-3 : (t : ℕ) → read-identifier-lts.Need-enum-known-refusal-3 (read-identifier-calls t) (read-identifier-at t) read-identifier.Post
+read-identifier-enum-known-refusal-3 t c = search needs
+
+read-identifier-enum-known-end : (t : ℕ) → read-identifier-lts.Need-enum-known-end (read-identifier-calls t) (read-identifier-at t) read-identifier.Post
+read-identifier-enum-known-end t c = search needs
+
+read-identifier-cast-put-stop : (t : ℕ) → read-identifier-lts.Need-cast-put-stop (read-identifier-calls t) (read-identifier-at t) read-identifier.Post
+read-identifier-cast-put-stop t c = let Q = told-at ((took (c .before .before .before .before .before .before .stop .given .1) (due-as (c .before .before .before .before .before .before .before .before .before .before .before .before .before .before .before .before .named-due .ensures) (c .before .before .before .before .before .before .before .before .before .before .read-value .ensures))) .inside) (c .before .before .end .given .1) (c .before .before .before .before .one-mark .ensures) in omega (arith, Q .inside, c .before .before .before .before .before .before .before .before .before .before .before .before .before .before .before .before .before .before .before .before .before .before .before .before .pre .1 .1 .short)
+
+read-identifier-put-stop-requires : (t : ℕ) → read-identifier-lts.Need-put-stop-requires (read-identifier-calls t) (read-identifier-at t) read-identifier.Post
+read-identifier-put-stop-requires t c κs = omega (arith, c .before .before .before .before .before .before .before .before .before .before .read-value .kept .1 .1 .0, c .before .before .before .before .before .before .before .before .before .before .before .before .before .before .before .before .before .if2 .left, c .before .before .before .before .before .before .before .before .before .before .before .before .before .before .before .before .before .before .before .before .before .before .before .before .pre .1 .0 .table .room)
+
+read-identifier-returns-3 : (t : ℕ) → read-identifier-lts.Need-returns-3 (read-identifier-calls t) (read-identifier-at t) read-identifier.Post
+read-identifier-returns-3 t c = record { is = name-not (c .before .before .before .before .before .before .before .before .before .before .before .before .args .rules .sw) (c .before .before .before .before .before .before .before .before .before .before .before .before .args .rules .limits) (c .before .before .before .before .before .before .before .before .before .before .before .before .args .text .now) (c .before .before .before .before .before .before .before .before .before .before .before .before .args .name .start) (c .before .before .before .before .before .before .before .before .before .before .before .before .args .name .stop) (c .before .before .before .before .before .before .before .before .before .before .before .before .args .due .fresh) (c .before .before .before .before .before .before .before .before .before .before .before .before .args .due .any) (c .before .before .before .before .before .before .before .before .before .before .before .before .args .due .label) (c .before .before .before .before .before .before .before .before .before .before .before .before .args .due .spot .node) (c .before .before .before .before .before .before .before .before .before .before .before .before .args .due .spot .depth) (not-false (c .before .before .before .before .before .before .before .before .before .before .before .before .args .due .fresh) (c .before .before .before .before .before .before .before .before .if1 .left)) (c .before .before .before .before .before .if2 .left) (c .before .before .before .before .before .before .before .before .before .before .before .before .pre .1 .1 .ordered) _ (c .before .before .before .before .before .before .before .before .before .before .before .before .pre .1 .1 .inside) (sym (c .before .before .before .token-after .ensures) ∙ c .before .refusal .given .1) }
+
+read-identifier-same-length : (t : ℕ) → read-identifier-lts.Need-same-length (read-identifier-calls t) (read-identifier-at t) read-identifier.Post
+read-identifier-same-length t c = c .before .before .before .before .before .read-value .kept .1 .1 .0
+
+read-identifier-returns-4 : (t : ℕ) → read-identifier-lts.Need-returns-4 (read-identifier-calls t) (read-identifier-at t) read-identifier.Post
+read-identifier-returns-4 t c = record { is = name-stop (c .before .before .before .before .before .before .before .before .before .before .before .before .before .before .before .before .before .before .before .args .rules .sw) (c .before .before .before .before .before .before .before .before .before .before .before .before .before .before .before .before .before .before .before .args .rules .limits) (c .before .before .before .before .before .before .before .before .before .before .before .before .before .before .before .before .before .before .before .args .text .now) (c .before .before .before .before .before .before .before .before .before .before .before .before .before .before .before .before .before .before .before .args .name .start) (c .before .before .before .before .before .before .before .before .before .before .before .before .before .before .before .before .before .before .before .args .name .stop) (c .before .before .before .before .before .before .before .before .before .before .before .before .before .before .before .before .before .before .before .args .due .fresh) (c .before .before .before .before .before .before .before .before .before .before .before .before .before .before .before .before .before .before .before .args .due .any) (c .before .before .before .before .before .before .before .before .before .before .before .before .before .before .before .before .before .before .before .args .due .label) (c .before .before .before .before .before .before .before .before .before .before .before .before .before .before .before .before .before .before .before .args .due .spot .node) (c .before .before .before .before .before .before .before .before .before .before .before .before .before .before .before .before .before .before .before .args .due .spot .depth) (not-false (c .before .before .before .before .before .before .before .before .before .before .before .before .before .before .before .before .before .before .before .args .due .fresh) (c .before .before .before .before .before .before .before .before .before .before .before .before .before .before .before .if1 .left)) (c .before .before .before .before .before .before .before .before .before .before .before .before .if2 .left) (c .before .before .before .before .before .before .before .before .before .before .before .before .before .before .before .before .before .before .before .pre .1 .1 .ordered) _ (past-token (c .before .before .before .before .before .before .before .before .before .before .before .before .before .before .before .before .before .before .before .args .rules .sw) (c .before .before .before .before .before .before .before .before .before .before .before .before .before .before .before .before .before .before .before .args .text .now) (c .before .before .before .before .before .before .before .before .before .before .before .before .before .before .before .before .before .before .before .args .name .stop) 40 (c .before .before .before .before .before .before .before .before .before .before .before .before .before .before .before .before .before .before .before .pre .1 .1 .inside) _ (sym (c .before .before .before .before .before .before .before .before .before .before .token-after .ensures) ∙ c .before .before .before .before .before .before .before .before .token .given .1)) _ _ (stops (c .before .refusal2 .given .1) (due-as (c .before .before .before .before .before .before .before .before .before .before .before .named-due .ensures) (c .before .before .before .before .before .read-value .ensures))) }
+
+read-identifier-same-length-2 : (t : ℕ) → read-identifier-lts.Need-same-length-2 (read-identifier-calls t) (read-identifier-at t) read-identifier.Post
+read-identifier-same-length-2 t c = c .before .before .before .before .before .before .before .before .before .read-value .kept .1 .1 .0
+
+read-identifier-returns-5 : (t : ℕ) → read-identifier-lts.Need-returns-5 (read-identifier-calls t) (read-identifier-at t) read-identifier.Post
+read-identifier-returns-5 t c = record { is = name-shut-not (c .before .before .before .before .before .before .before .before .before .before .before .before .before .before .before .before .before .before .before .before .before .before .before .args .rules .sw) (c .before .before .before .before .before .before .before .before .before .before .before .before .before .before .before .before .before .before .before .before .before .before .before .args .rules .limits) (c .before .before .before .before .before .before .before .before .before .before .before .before .before .before .before .before .before .before .before .before .before .before .before .args .text .now) (c .before .before .before .before .before .before .before .before .before .before .before .before .before .before .before .before .before .before .before .before .before .before .before .args .name .start) (c .before .before .before .before .before .before .before .before .before .before .before .before .before .before .before .before .before .before .before .before .before .before .before .args .name .stop) (c .before .before .before .before .before .before .before .before .before .before .before .before .before .before .before .before .before .before .before .before .before .before .before .args .due .fresh) (c .before .before .before .before .before .before .before .before .before .before .before .before .before .before .before .before .before .before .before .before .before .before .before .args .due .any) (c .before .before .before .before .before .before .before .before .before .before .before .before .before .before .before .before .before .before .before .before .before .before .before .args .due .label) (c .before .before .before .before .before .before .before .before .before .before .before .before .before .before .before .before .before .before .before .before .before .before .before .args .due .spot .node) (c .before .before .before .before .before .before .before .before .before .before .before .before .before .before .before .before .before .before .before .before .before .before .before .args .due .spot .depth) (not-false (c .before .before .before .before .before .before .before .before .before .before .before .before .before .before .before .before .before .before .before .before .before .before .before .args .due .fresh) (c .before .before .before .before .before .before .before .before .before .before .before .before .before .before .before .before .before .before .before .if1 .left)) (c .before .before .before .before .before .before .before .before .before .before .before .before .before .before .before .before .if2 .left) (c .before .before .before .before .before .before .before .before .before .before .before .before .before .before .before .before .before .before .before .before .before .before .before .pre .1 .1 .ordered) _ (past-token (c .before .before .before .before .before .before .before .before .before .before .before .before .before .before .before .before .before .before .before .before .before .before .before .args .rules .sw) (c .before .before .before .before .before .before .before .before .before .before .before .before .before .before .before .before .before .before .before .before .before .before .before .args .text .now) (c .before .before .before .before .before .before .before .before .before .before .before .before .before .before .before .before .before .before .before .before .before .before .before .args .name .stop) 40 (c .before .before .before .before .before .before .before .before .before .before .before .before .before .before .before .before .before .before .before .before .before .before .before .pre .1 .1 .inside) _ (sym (c .before .before .before .before .before .before .before .before .before .before .before .before .before .before .token-after .ensures) ∙ c .before .before .before .before .before .before .before .before .before .before .before .before .token .given .1)) _ _ _ _ _ (took (c .before .before .before .before .before .stop .given .1) (due-as (c .before .before .before .before .before .before .before .before .before .before .before .before .before .before .before .named-due .ensures) (c .before .before .before .before .before .before .before .before .before .read-value .ensures))) _ _ (told-not ((took (c .before .before .before .before .before .stop .given .1) (due-as (c .before .before .before .before .before .before .before .before .before .before .before .before .before .before .before .named-due .ensures) (c .before .before .before .before .before .before .before .before .before .read-value .ensures))) .inside) (c .before .refusal3 .given .1) (c .before .before .before .one-mark .ensures)) }
+
+read-identifier-same-length-3 : (t : ℕ) → read-identifier-lts.Need-same-length-3 (read-identifier-calls t) (read-identifier-at t) read-identifier.Post
+read-identifier-same-length-3 t c = c .before .before .put-stop .kept .0 ∙ c .before .before .before .before .before .before .before .before .before .before .before .before .before .read-value .kept .1 .1 .0
+
+read-identifier-returns-6 : (t : ℕ) → read-identifier-lts.Need-returns-6 (read-identifier-calls t) (read-identifier-at t) read-identifier.Post
+read-identifier-returns-6 t c = record { is = name-took (c .before .before .before .before .before .before .before .before .before .before .before .before .before .before .before .before .before .before .before .before .before .before .before .before .before .before .before .args .rules .sw) (c .before .before .before .before .before .before .before .before .before .before .before .before .before .before .before .before .before .before .before .before .before .before .before .before .before .before .before .args .rules .limits) (c .before .before .before .before .before .before .before .before .before .before .before .before .before .before .before .before .before .before .before .before .before .before .before .before .before .before .before .args .text .now) (c .before .before .before .before .before .before .before .before .before .before .before .before .before .before .before .before .before .before .before .before .before .before .before .before .before .before .before .args .name .start) (c .before .before .before .before .before .before .before .before .before .before .before .before .before .before .before .before .before .before .before .before .before .before .before .before .before .before .before .args .name .stop) (c .before .before .before .before .before .before .before .before .before .before .before .before .before .before .before .before .before .before .before .before .before .before .before .before .before .before .before .args .due .fresh) (c .before .before .before .before .before .before .before .before .before .before .before .before .before .before .before .before .before .before .before .before .before .before .before .before .before .before .before .args .due .any) (c .before .before .before .before .before .before .before .before .before .before .before .before .before .before .before .before .before .before .before .before .before .before .before .before .before .before .before .args .due .label) (c .before .before .before .before .before .before .before .before .before .before .before .before .before .before .before .before .before .before .before .before .before .before .before .before .before .before .before .args .due .spot .node) (c .before .before .before .before .before .before .before .before .before .before .before .before .before .before .before .before .before .before .before .before .before .before .before .before .before .before .before .args .due .spot .depth) (not-false (c .before .before .before .before .before .before .before .before .before .before .before .before .before .before .before .before .before .before .before .before .before .before .before .before .before .before .before .args .due .fresh) (c .before .before .before .before .before .before .before .before .before .before .before .before .before .before .before .before .before .before .before .before .before .before .before .if1 .left)) (c .before .before .before .before .before .before .before .before .before .before .before .before .before .before .before .before .before .before .before .before .if2 .left) (c .before .before .before .before .before .before .before .before .before .before .before .before .before .before .before .before .before .before .before .before .before .before .before .before .before .before .before .pre .1 .1 .ordered) _ (past-token (c .before .before .before .before .before .before .before .before .before .before .before .before .before .before .before .before .before .before .before .before .before .before .before .before .before .before .before .args .rules .sw) (c .before .before .before .before .before .before .before .before .before .before .before .before .before .before .before .before .before .before .before .before .before .before .before .before .before .before .before .args .text .now) (c .before .before .before .before .before .before .before .before .before .before .before .before .before .before .before .before .before .before .before .before .before .before .before .before .before .before .before .args .name .stop) 40 (c .before .before .before .before .before .before .before .before .before .before .before .before .before .before .before .before .before .before .before .before .before .before .before .before .before .before .before .pre .1 .1 .inside) _ (sym (c .before .before .before .before .before .before .before .before .before .before .before .before .before .before .before .before .before .before .token-after .ensures) ∙ c .before .before .before .before .before .before .before .before .before .before .before .before .before .before .before .before .token .given .1)) _ _ _ _ _ (took (c .before .before .before .before .before .before .before .before .before .stop .given .1) (due-as (c .before .before .before .before .before .before .before .before .before .before .before .before .before .before .before .before .before .before .before .named-due .ensures) (c .before .before .before .before .before .before .before .before .before .before .before .before .before .read-value .ensures))) (c .before .before .before .before .before .before .before .before .before .before .before .before .before .before .before .before .before .before .before .before .before .before .before .before .before .before .before .pre .1 .0 .unnamed (not-false (c .before .before .before .before .before .before .before .before .before .before .before .before .before .before .before .before .before .before .before .before .before .before .before .before .before .before .before .args .due .fresh) (c .before .before .before .before .before .before .before .before .before .before .before .before .before .before .before .before .before .before .before .before .before .before .before .if1 .left))) _ (told-at ((took (c .before .before .before .before .before .before .before .before .before .stop .given .1) (due-as (c .before .before .before .before .before .before .before .before .before .before .before .before .before .before .before .before .before .before .before .named-due .ensures) (c .before .before .before .before .before .before .before .before .before .before .before .before .before .read-value .ensures))) .inside) (c .before .before .before .before .before .end .given .1) (c .before .before .before .before .before .before .before .one-mark .ensures)) _ (c .before .before .put-stop .ensures) }
+
+read-value-begin-of-requires : (t : ℕ) → read-value-lts.Need-begin-of-requires (read-value-calls t) (read-value-at t) read-value.Post
+read-value-begin-of-requires t c κs = (c .before .before .pre .1 .1 .0, c .before .before .pre .1 .1 .1)
+
+read-value-enum-known-kind : (t : ℕ) → read-value-lts.Need-enum-known-kind (read-value-calls t) (read-value-at t) read-value.Post
+read-value-enum-known-kind t c = search needs
+
+read-value-read-container-requires : (t : ℕ) → read-value-lts.Need-read-container-requires (read-value-calls t) (read-value-at t) read-value.Post
+read-value-read-container-requires t c κs = (omega arith, (c .before .before .before .before .before .before .before .pre .1 .0, record { ordered = c .before .before .before .before .before .before .before .pre .1 .1 .0 .ordered; inside = c .before .before .before .before .before .before .before .pre .1 .1 .0 .inside; short = c .before .before .before .before .before .before .before .pre .1 .1 .1 }))
+
+read-value-enum-known-words : (t : ℕ) → read-value-lts.Need-enum-known-words (read-value-calls t) (read-value-at t) read-value.Post
+read-value-enum-known-words t c = search needs
+
+read-value-put-leaf-requires : (t : ℕ) → read-value-lts.Need-put-leaf-requires (read-value-calls t) (read-value-at t) read-value.Post
+read-value-put-leaf-requires t c κs = (c .before .before .before .before .before .before .before .pre .1 .0, omega (arith, c .before .before .before .before .before .before .before .pre .1 .1 .0 .inside, c .before .before .before .before .before .before .before .pre .1 .1 .1))
+
+read-value-enum-told : (t : ℕ) → read-value-lts.Need-enum-told (read-value-calls t) (read-value-at t) read-value.Post
+read-value-enum-told t c = search needs
+
+read-value-read-identifier-requires : (t : ℕ) → read-value-lts.Need-read-identifier-requires (read-value-calls t) (read-value-at t) read-value.Post
+read-value-read-identifier-requires t c κs = (omega arith, (c .before .before .before .before .before .before .pre .1 .0, record { ordered = c .before .before .before .before .before .before .pre .1 .1 .0 .ordered; inside = c .before .before .before .before .before .before .pre .1 .1 .0 .inside; short = c .before .before .before .before .before .before .pre .1 .1 .1 }))
+
+read-value-enum-told-2 : (t : ℕ) → read-value-lts.Need-enum-told-2 (read-value-calls t) (read-value-at t) read-value.Post
+read-value-enum-told-2 t c = search needs
+
+read-value-same-length : (t : ℕ) → read-value-lts.Need-same-length (read-value-calls t) (read-value-at t) read-value.Post
+read-value-same-length t c = c .before .before .read-container .kept .1 .1 .0
+
+read-value-returns : (t : ℕ) → read-value-lts.Need-returns (read-value-calls t) (read-value-at t) read-value.Post
+read-value-returns t c = begins-as (begun-as (Z.Container _) (c .before .before .before .before .before .kind .given .1) (c .before .before .before .before .before .before .before .begin-of .ensures)) (c .before .before .read-container .ensures)
+
+read-value-same-length-2 : (t : ℕ) → read-value-lts.Need-same-length-2 (read-value-calls t) (read-value-at t) read-value.Post
+read-value-same-length-2 t c = c .before .before .put-leaf .kept .1 .0
+
+read-value-returns-2 : (t : ℕ) → read-value-lts.Need-returns-2 (read-value-calls t) (read-value-at t) read-value.Post
+read-value-returns-2 t c = leaf-read (c .before .before .before .before .before .before .before .before .before .before .pre .1 .0) (record { ordered = c .before .before .before .before .before .before .before .before .before .before .pre .1 .1 .0 .ordered; inside = c .before .before .before .before .before .before .before .before .before .before .pre .1 .1 .0 .inside; short = c .before .before .before .before .before .before .before .before .before .before .pre .1 .1 .1 }) (begun-as (Z.Scalar _) (c .before .before .before .before .before .words .given .1) (c .before .before .before .before .before .before .before .begin-of .ensures)) (c .before .before .put-leaf .ensures .0) (c .before .before .put-leaf .ensures .1)
+
+read-value-same-length-3 : (t : ℕ) → read-value-lts.Need-same-length-3 (read-value-calls t) (read-value-at t) read-value.Post
+read-value-same-length-3 t c = c .before .before .read-identifier .kept .1 .1 .0
+
+read-value-returns-3 : (t : ℕ) → read-value-lts.Need-returns-3 (read-value-calls t) (read-value-at t) read-value.Post
+read-value-returns-3 t c = begins-as (begun-as Z.Identifier (c .before .before .before .before .enum-told .given .1) (c .before .before .before .before .before .before .begin-of .ensures)) (c .before .before .read-identifier .ensures)
+
+read-value-returns-4 : (t : ℕ) → read-value-lts.Need-returns-4 (read-value-calls t) (read-value-at t) read-value.Post
+read-value-returns-4 t c = record { is = nothing-stops _ _ _ _ _ (c .before .before .before .before .before .args .due .fresh) (c .before .before .before .before .before .args .due .any) _ _ _ _ (begun-as Z.Nothing (c .enum-told2 .given .1) (c .before .before .begin-of .ensures)) }
+
+pub +read-container+read-identifier+read-value-spec : {M : Type 1} → statement M
++read-container+read-identifier+read-value-spec =
+    close μ-read-container μ-read-identifier μ-read-value (λ t. read-container-lts.spec (read-container-calls t)
+    (read-container-at t)
+    read-container.Post
+    read-container-Inv-loop
+    read-container-μ-loop
+    (read-container-returns t)
+    (read-container-is-full-requires t)
+    (read-container-returns-2 t)
+    (read-container-add-first t)
+    (read-container-loop-holds t)
+    (read-container-next-item-requires t)
+    (read-container-enum-known-refusal t)
+    (read-container-same-length t)
+    (read-container-returns-3 t)
+    (read-container-enum-known-end t)
+    (read-container-put-branch-requires t)
+    (read-container-same-length-2 t)
+    (read-container-returns-4 t)
+    (read-container-enum-known-token t)
+    (read-container-child-due-requires t)
+    (read-container-read-value-requires t)
+    (read-container-enum-known-refusal-2 t)
+    (read-container-same-length-3 t)
+    (read-container-returns-5 t)
+    (read-container-enum-known-stop t)
+    (read-container-add-children t)
+    (read-container-after-item-requires t)
+    (read-container-enum-known-refusal-3 t)
+    (read-container-same-length-4 t)
+    (read-container-returns-6 t)
+    (read-container-enum-known-end-2 t)
+    (read-container-put-branch-requires-2 t)
+    (read-container-same-length-5 t)
+    (read-container-returns-7 t)
+    (read-container-enum-known-comma t)
+    (read-container-loop-less t)
+    (read-container-loop-again t))
+    (λ t. read-identifier-lts.spec (read-identifier-calls t)
+    (read-identifier-at t)
+    read-identifier.Post
+    (read-identifier-returns t)
+    (read-identifier-returns-2 t)
+    (read-identifier-named-due-requires t)
+    (read-identifier-token-after-requires t)
+    (read-identifier-enum-known-refusal t)
+    (read-identifier-enum-known-token t)
+    (read-identifier-read-value-requires t)
+    (read-identifier-enum-known-refusal-2 t)
+    (read-identifier-enum-known-stop t)
+    (read-identifier-one-mark-requires t)
+    (read-identifier-enum-known-refusal-3 t)
+    (read-identifier-enum-known-end t)
+    (read-identifier-cast-put-stop t)
+    (read-identifier-put-stop-requires t)
+    (read-identifier-returns-3 t)
+    (read-identifier-same-length t)
+    (read-identifier-returns-4 t)
+    (read-identifier-same-length-2 t)
+    (read-identifier-returns-5 t)
+    (read-identifier-same-length-3 t)
+    (read-identifier-returns-6 t))
+    λ t. read-value-lts.spec (read-value-calls t)
+    (read-value-at t)
+    read-value.Post
+    (read-value-begin-of-requires t)
+    (read-value-enum-known-kind t)
+    (read-value-read-container-requires t)
+    (read-value-enum-known-words t)
+    (read-value-put-leaf-requires t)
+    (read-value-enum-told t)
+    (read-value-read-identifier-requires t)
+    (read-value-enum-told-2 t)
+    (read-value-same-length t)
+    (read-value-returns t)
+    (read-value-same-length-2 t)
+    (read-value-returns-2 t)
+    (read-value-same-length-3 t)
+    (read-value-returns-3 t)
+    (read-value-returns-4 t)

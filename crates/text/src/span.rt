@@ -1,0 +1,10 @@
+// Spans: bytes that stand side by side.
+
+// The bytes from `start` to before `stop`.
+pub struct Span {
+    pub start: usize,
+    pub stop: usize,
+}
+
+// The bytes that a text may have.
+pub const LONGEST_TEXT: usize = 65536;
