@@ -15,12 +15,12 @@ use Rattle.text.specs.declared.switches.Switches.{Switches}
 use Rattle.lexer.specs.declared.item.TokenKind.{TokenKind}
 use Rattle.reader.specs.declared.tree.Kind.{Kind}
 use Rattle.reader.specs.declared.tree.Limits.{Limits}
-use Rattle.reader.specs.declared.tree.Refusal.{Refusal}
+use Rattle.text.specs.declared.refusal.Refusal.{Refusal}
 use Rattle.reader.specs.declared.tree.Rules.{Rules}
 use Rattle.reader.specs.declared.tree.Children.{Children}
 use Rattle.reader.specs.declared.tree.Due.{Due}
 use Rattle.reader.specs.declared.tree.Spot.{Spot}
-use Rattle.reader.specs.declared.tree.Span as CS
+use Rattle.text.specs.declared.span.Span as CS
 use Rattle.reader.specs.declared.tree.Token as CT
 use Rattle.reader.specs.declared.items.Item.{Item}
 use Rattle.reader.specs.declared.items.Item.the-variants as I

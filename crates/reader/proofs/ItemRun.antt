@@ -19,9 +19,9 @@ use Rattle.lexer.proofs.AloneLaws.{token-alone}
 use Rattle.reader.specs.declared.tree.Kind.{Kind}
 use Rattle.reader.specs.declared.tree.Kind.the-variants.{Object}
 use Rattle.reader.specs.declared.tree.Limits.{Limits}
-use Rattle.reader.specs.declared.tree.Refusal.{Refusal}
+use Rattle.text.specs.declared.refusal.Refusal.{Refusal}
 use Rattle.reader.specs.declared.tree.Children.{Children}
-use Rattle.reader.specs.declared.tree.Span as CS
+use Rattle.text.specs.declared.span.Span as CS
 use Rattle.reader.specs.declared.items.Ahead.{Ahead}
 use Rattle.reader.specs.declared.items.Ahead.the-variants as H
 use Rattle.reader.specs.declared.items.Only.{Only}

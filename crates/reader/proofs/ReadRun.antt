@@ -21,7 +21,7 @@ use Rattle.lexer.specs.Token.{tokens, tokensFrom}
 use Rattle.lexer.specs.Answer.{firstOf}
 use Rattle.reader.specs.declared.tree.Limits.{Limits}
 use Rattle.reader.specs.declared.tree.Rules.{Rules}
-use Rattle.reader.specs.declared.tree.Refusal.{Refusal}
+use Rattle.text.specs.declared.refusal.Refusal.{Refusal}
 use Rattle.reader.specs.declared.items.Ahead.the-variants as H
 use Rattle.reader.specs.declared.read.Whole.{Whole}
 use Rattle.reader.specs.declared.read.Whole.the-variants as W
@@ -190,10 +190,10 @@ module _ (sw : Switches) (s : List ℕ) (words : ℕ) (limits : Limits) (e : lim
             ∙ sym (ap (tableOf words) (to-reading ∙ T .is)),
       )
 
-  pub read-refused : (tout last : List ℕ) (number place : ℕ) → length tout ≡ length tin → last ≡ replicate (length tout) 0 → outcome sw false limits s ≡ refused number place
-      → (R.Refused number place ≡ answerOf (reading sw words s)) × (last ≡ tableOf words (reading sw words s))
+  pub read-refused : (tout last : List ℕ) (f : Refusal) → length tout ≡ length tin → last ≡ replicate (length tout) 0 → outcome sw false limits s ≡ refused (f .number) (f .place)
+      → (R.Refused f ≡ answerOf (reading sw words s)) × (last ≡ tableOf words (reading sw words s))
   unfolding answerOf tableOf
-  read-refused tout last number place l w o =
+  read-refused tout last f l w o =
       let n : length tout ≡ words = l ∙ ap length z ∙ length-replicate words 0 in
       (sym (ap answerOf (to-reading ∙ o)), w ∙ ap (λ (k : ℕ). replicate k 0) n ∙ sym (ap (tableOf words) (to-reading ∙ o)))
 

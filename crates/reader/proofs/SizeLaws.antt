@@ -17,6 +17,7 @@ use Rattle.text.proofs.Choice.{cond-both}
 use Rattle.reader.specs.Tree.{Span, Tree, leaf, branch, Forest, nil, cons, snoc, count, size, sizes, rows, rowsAll, padded, noParent, nodeWords}
 use Rattle.reader.specs.declared.tree.Limits.{Limits}
 use Rattle.reader.specs.Syntax.{Label, Frame, Slot, first, lone, after, more, Mode, value, named, inner, close, inside, colon, done, Config, Step, go, refuse, Begins, container, scalar, identifier, nothing, spanOf, isMark, closer, isObject, keyOf, begins, headBy, withStop, label, finished, ended, goTo, refuseIf, isComma, emptyByComma, holds, keyStep, closeOr, noNode, counted, valueStep, freshValue, childStep, slotStep, modeStep, step, Outcome, taken, refused, atEnd, afterStep, run, before}
+use Rattle.text.specs.declared.refusal.Refusal.{Refusal}
 use Rattle.reader.specs.declared.read.Reading.the-variants as R
 use Rattle.reader.specs.Reading.{outcome, reading, isTaken, nodeLimit, limitsOf, nodeCount, tableOf, answerOf, maxText}
 use Rattle.reader.proofs.StopLaws.{stops-size}
@@ -227,17 +228,17 @@ unfolding answerOf isTaken
 taken-is (taken tree) n e = refl
 taken-is (refused k p) n e = cc
 
-pub taken-not : (o : Outcome) (k p : ℕ) → answerOf o ≡ R.Refused k p → isTaken o ≡ false
+pub taken-not : (o : Outcome) (f : Refusal) → answerOf o ≡ R.Refused f → isTaken o ≡ false
 unfolding answerOf isTaken
-taken-not (taken tree) k p e = cc
-taken-not (refused j q) k p e = refl
+taken-not (taken tree) f e = cc
+taken-not (refused k p) f e = refl
 
 pub taken-nodes : (o : Outcome) (n : ℕ) → answerOf o ≡ R.Taken n → n ≡ nodeCount o
 unfolding answerOf nodeCount
 taken-nodes (taken tree) n e = cc
 taken-nodes (refused k p) n e = cc
 
-pub refused-nodes : (o : Outcome) (k p : ℕ) → answerOf o ≡ R.Refused k p → 0 ≡ nodeCount o
+pub refused-nodes : (o : Outcome) (f : Refusal) → answerOf o ≡ R.Refused f → 0 ≡ nodeCount o
 unfolding answerOf nodeCount
-refused-nodes (taken tree) k p e = cc
-refused-nodes (refused j q) k p e = refl
+refused-nodes (taken tree) f e = cc
+refused-nodes (refused k p) f e = refl

@@ -21,7 +21,7 @@ use Rattle.lexer.proofs.NextLaws.{next-ahead, next-end, next-fault}
 use Rattle.reader.specs.declared.tree.Kind.{Kind}
 use Rattle.reader.specs.declared.tree.Kind.the-variants.{Object, Array, Tuple}
 use Rattle.reader.specs.declared.tree.Limits.{Limits}
-use Rattle.reader.specs.declared.tree.Refusal.{Refusal}
+use Rattle.text.specs.declared.refusal.Refusal.{Refusal}
 use Rattle.reader.specs.declared.tree.Token as CT
 use Rattle.reader.specs.declared.items.Ahead.{Ahead}
 use Rattle.reader.specs.declared.items.Ahead.the-variants as H

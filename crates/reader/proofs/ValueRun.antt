@@ -15,7 +15,7 @@ use Rattle.lexer.specs.declared.item.TokenKind.{TokenKind}
 use Rattle.lexer.specs.Token as L
 use Rattle.reader.specs.declared.tree.Words.{Words}
 use Rattle.reader.specs.declared.tree.Limits.{Limits}
-use Rattle.reader.specs.declared.tree.Refusal.{Refusal}
+use Rattle.text.specs.declared.refusal.Refusal.{Refusal}
 use Rattle.reader.specs.declared.tree.Rules.{Rules}
 use Rattle.reader.specs.declared.tree.Due.{Due}
 use Rattle.reader.specs.declared.tree.Label as CL

@@ -6,6 +6,7 @@ use mathlib.Core.List.{List}
 use lib.Dec.{leb, eqb}
 use lib.ListN.{length, replicate, getD}
 use Rattle.text.specs.declared.switches.Switches.{Switches}
+use Rattle.text.specs.Refusal.{refusal}
 use Rattle.text.specs.Utf8.{utf8, isWhole, wholeFront}
 use Rattle.lexer.specs.Token.{tokens}
 use Rattle.reader.specs.Tree.{headOf, size, rows, padded, nodeWords, noParent}
@@ -76,7 +77,7 @@ tableOf words (refused number place) = replicate words 0
 -- the code's answer, src/read.rt: the node count, or document 01's number and place of the refusal
 unfoldable pub answerOf : Outcome → Reading
 answerOf (taken tree) = R.Taken (size tree)
-answerOf (refused number place) = R.Refused number place
+answerOf (refused number place) = R.Refused (refusal number place)
 
 -- word `i` of a node in a table
 abbrev pub wordOf : List ℕ → (node i : ℕ) → ℕ

@@ -19,12 +19,12 @@ ghost use Rattle.reader.specs.Internal.Values.{Look, ItemAt, ElementAt};
 use super::keys::find_key;
 use super::tree::Children;
 use super::tree::Kind;
-use super::tree::Refusal;
-use super::tree::Span;
 use super::tree::Token;
 use lexer::item::Next;
 use lexer::item::TokenKind;
 use lexer::item::next_token;
+use text::refusal::Refusal;
+use text::span::Span;
 use text::switches::Switches;
 
 // The next token, where the text may not end.

@@ -2,9 +2,9 @@
 ghost use Rattle.reader.specs.Internal.Values.{Chained, KeyHere, FoundKey};
 use super::rows::word;
 use super::tree::Children;
-use super::tree::Span;
 use lexer::token::content_is;
 use lexer::token::part_of;
+use text::span::Span;
 use text::switches::Switches;
 
 // Whether the key is one of the children's, which are side by side in the table. Where its own content stands is found once, before

@@ -10,15 +10,15 @@ use super::items::Ahead;
 use super::items::token_from;
 use super::rows::clear;
 use super::tree::Limits;
-use super::tree::Refusal;
 use super::tree::Rules;
-use super::tree::Span;
 use super::tree::Spot;
 use super::values::Answer;
 use super::values::fresh_due;
 use super::values::read_value;
 use lexer::item::Next;
 use lexer::item::next_token;
+use text::refusal::Refusal;
+use text::span::Span;
 use text::switches::Switches;
 use text::switches::present;
 use text::utf8::valid_front;
@@ -33,10 +33,10 @@ pub enum Whole {
     Refused(Refusal),
 }
 
-// What reading a text answers: the node count, or a refusal by document 01's number with its place.
+// What reading a text answers: the node count, or a refusal.
 pub enum Reading {
     Taken(usize),
-    Refused(u8, usize),
+    Refused(Refusal),
 }
 
 // Nothing after a value that was read to its end, `stop`.
@@ -126,7 +126,7 @@ pub fn read_edition(sw: Switches, text: &[u8], table: &mut [u32]) -> Reading
         } => Reading::Taken(nodes),
         Whole::Refused(refusal) => {
             clear(table);
-            Reading::Refused(refusal.number, refusal.place)
+            Reading::Refused(refusal)
         }
     }
 }

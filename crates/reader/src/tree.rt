@@ -1,5 +1,6 @@
 // What the reader's functions hand each other.
 use lexer::item::TokenKind;
+use text::span::Span;
 use text::switches::Switches;
 
 // The containers.
@@ -21,23 +22,11 @@ pub struct Rules {
     pub limits: Limits,
 }
 
-// Bytes of the text, from `start` to before `stop`; 0, 0 if there are none.
-pub struct Span {
-    pub start: usize,
-    pub stop: usize,
-}
-
 // A token: its kind, and where it stands.
 pub struct Token {
     pub kind: TokenKind,
     pub start: usize,
     pub stop: usize,
-}
-
-// A refusal by document 01's number, with its place.
-pub struct Refusal {
-    pub number: u8,
-    pub place: usize,
 }
 
 // What is known of a value that has begun: its start, and the spans of its key and of its identifier's name.

@@ -38,12 +38,12 @@ use super::tree::Due;
 use super::tree::Kind;
 use super::tree::Label;
 use super::tree::Limits;
-use super::tree::Refusal;
 use super::tree::Rules;
-use super::tree::Span;
 use super::tree::Spot;
 use super::tree::Token;
 use super::tree::Words;
+use text::refusal::Refusal;
+use text::span::Span;
 
 // A value was read: the place after it, and the number of nodes then; or a refusal.
 pub enum Answer {

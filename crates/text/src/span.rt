@@ -7,4 +7,4 @@ pub struct Span {
 }
 
 // The bytes that a text may have.
-pub const LONGEST_TEXT: usize = 65536;
+pub const MAX_TEXT: usize = 65536;

@@ -13,7 +13,7 @@ use Rattle.lexer.specs.declared.item.Next.the-variants as N
 use Rattle.lexer.specs.Token.{tokensFrom}
 use Rattle.lexer.specs.Answer.{firstOf}
 use Rattle.reader.specs.declared.tree.Kind.{Kind}
-use Rattle.reader.specs.declared.tree.Span as CS
+use Rattle.text.specs.declared.span.Span as CS
 use Rattle.reader.specs.declared.items.Ahead.{Ahead}
 use Rattle.reader.specs.declared.items.Ahead.the-variants as H
 use Rattle.reader.specs.declared.items.Only.{Only}

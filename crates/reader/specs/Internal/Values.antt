@@ -15,7 +15,7 @@ use Rattle.lexer.specs.Token.{tokensFrom, tokenContent}
 use Rattle.reader.specs.declared.tree.Kind.{Kind}
 use Rattle.reader.specs.declared.tree.Limits.{Limits}
 use Rattle.reader.specs.declared.tree.Rules.{Rules}
-use Rattle.reader.specs.declared.tree.Span as CS
+use Rattle.text.specs.declared.span.Span as CS
 use Rattle.reader.specs.declared.tree.Token as CT
 use Rattle.reader.specs.declared.tree.Label as CL
 use Rattle.reader.specs.declared.tree.Spot.{Spot}

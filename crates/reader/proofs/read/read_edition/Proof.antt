@@ -19,6 +19,7 @@ at-words : (words long nodes : ℕ) → nodes ≡ nodeLimit long → long ≡ wo
 unfolding limitsOf
 at-words words long nodes e l = ap (λ (n : ℕ). record { depth = 32; nodes = n }) (e ∙ ap nodeLimit l)
 
+
 clear-requires : tie.Need-clear-requires
 clear-requires c κs = search needs
 
@@ -47,7 +48,7 @@ same-length-2 : tie.Need-same-length-2
 same-length-2 c = c .before .before .clear2 .kept .0 ∙ c .before .before .before .before .before .before .before .before .before .judge .kept .1 .1 .0 ∙ c .before .before .before .before .before .before .before .before .before .before .before .before .before .before .clear .kept .0
 
 returns-2 : tie.Need-returns-2
-returns-2 c = read-refused (c .before .before .before .before .before .before .before .before .before .before .before .before .before .before .before .before .before .before .args .sw) (c .before .before .before .before .before .before .before .before .before .before .before .before .before .before .before .before .before .before .args .text .now) (length (c .before .before .before .before .before .before .before .before .before .before .before .before .before .before .before .before .before .before .args .table .now)) _ (at-words _ _ _ (c .before .before .before .before .before .before .before .before .before .before .before .node-limit .ensures) (c .before .before .before .before .before .before .before .before .before .before .before .before .before .before .clear .kept .0)) _ (c .before .before .before .before .before .before .before .before .before .before .before .before .before .before .clear .ensures) (c .before .before .before .before .before .before .before .before .before .judge .last .1 .1 .0) _ _ _ (c .before .before .before .before .before .before .before .before .before .judge .kept .1 .1 .0) (c .before .before .clear2 .ensures) (tree-not (c .before .before .before .before .before .refusal .given .1) (c .before .before .before .before .before .before .before .before .before .judge .ensures))
+returns-2 c = read-refused (c .before .before .before .before .before .before .before .before .before .before .before .before .before .before .before .before .before .before .args .sw) (c .before .before .before .before .before .before .before .before .before .before .before .before .before .before .before .before .before .before .args .text .now) (length (c .before .before .before .before .before .before .before .before .before .before .before .before .before .before .before .before .before .before .args .table .now)) _ (at-words _ _ _ (c .before .before .before .before .before .before .before .before .before .before .before .node-limit .ensures) (c .before .before .before .before .before .before .before .before .before .before .before .before .before .before .clear .kept .0)) _ (c .before .before .before .before .before .before .before .before .before .before .before .before .before .before .clear .ensures) (c .before .before .before .before .before .before .before .before .before .judge .last .1 .1 .0) _ _ (c .before .before .before .before .before .before .before .before .before .judge .kept .1 .1 .0) (c .before .before .clear2 .ensures) (tree-not (c .before .before .before .before .before .refusal .given .1) (c .before .before .before .before .before .before .before .before .before .judge .ensures))
 
 pub read-edition-spec : {M : Type 1} → statement M
 read-edition-spec =
