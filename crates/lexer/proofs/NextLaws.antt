@@ -13,11 +13,13 @@ use lib.Seq.{drop-drop, getD-drop}
 use borrow.Author.Tests.{ltb-true, ltb-false}
 use Rattle.text.specs.declared.switches.Switches.{Switches}
 use Rattle.lexer.specs.declared.item.TokenKind.{TokenKind}
+use Rattle.text.specs.declared.refusal.Refusal.{Refusal}
+use Rattle.lexer.specs.declared.item.Token.{Token}
 use Rattle.lexer.specs.declared.item.Found.{Found}
 use Rattle.lexer.specs.declared.item.Found.the-variants as F
 use Rattle.lexer.specs.declared.item.Next.the-variants as X
 use Rattle.lexer.specs.Token.{Form, Item, gap, token, fault, item, Tokens, next, end, afterItem, cut, itemAt, tokensFrom}
-use Rattle.lexer.specs.Answer.{kindOf, found, foundAt, firstOf}
+use Rattle.lexer.specs.Answer.{kindOf, found, foundAt, tokenNext, refusedNext, firstOf}
 use Rattle.lexer.proofs.TokenLaws.{EndsBy, item-ends, itemAt-ends, cut-left, cut-end, cut-within, from-gap, from-token, from-fault, Within}
 
 -- ---- what an answer of `item_at` says
@@ -35,7 +37,7 @@ module _ (at e : ℕ) where
   found-token k (token form more) q = (form, more, refl, (cc), (cc))
   found-token k (fault number) q = let z : _≡_ {A = ℕ} 0 1 = cc in absurd (omega arith)
 
-  found-fault : (i : Item) → found at i ≡ F.Fault e → i ≡ fault e
+  found-fault : (i : Item) → found at i ≡ F.Refused e → i ≡ fault e
   unfolding found
   found-fault (gap more) q = cc
   found-fault (token form more) q = cc
@@ -71,17 +73,17 @@ module _ (sw : Switches) (s : List ℕ) (at : ℕ) where
       let m = g .2 in
       (from-gap sw s at (h .0) (g .0) (g .1) ∙ ap (tokensFrom sw s) (sym m), omega arith, omega arith)
 
-  pub at-token : (k : TokenKind) (e : ℕ) → foundAt sw s at ≡ F.Token k e → firstOf (tokensFrom sw s at) ≡ X.Token k at e
+  pub at-token : (k : TokenKind) (e : ℕ) → foundAt sw s at ≡ F.Token k e → firstOf (tokensFrom sw s at) ≡ tokenNext k at e
   unfolding firstOf
   at-token k e q =
       let h = item-there (F.Token k e) q (λ n. let z : _≡_ {A = ℕ} 0 1 = cc in omega arith) in
       let g = found-token at e k (itemAt sw s at) (h .1) in
-      ap firstOf (from-token sw s at (h .0) (g .0) (g .1) (g .2)) ∙ (λ i. X.Token (g .3 i) at (sym (g .4) i))
+      ap firstOf (from-token sw s at (h .0) (g .0) (g .1) (g .2)) ∙ (λ i. tokenNext (g .3 i) at (sym (g .4) i))
 
-  pub at-fault : (n : ℕ) → foundAt sw s at ≡ F.Fault n → firstOf (tokensFrom sw s at) ≡ X.Fault n at
+  pub at-fault : (n : ℕ) → foundAt sw s at ≡ F.Refused n → firstOf (tokensFrom sw s at) ≡ refusedNext n at
   unfolding firstOf
   at-fault n q =
-      let h = item-there (F.Fault n) q (λ m. let z : _≡_ {A = ℕ} 0 1 = cc in omega arith) in
+      let h = item-there (F.Refused n) q (λ m. let z : _≡_ {A = ℕ} 0 1 = cc in omega arith) in
       ap firstOf (from-fault sw s at (h .0) n (found-fault at n (itemAt sw s at) (h .1)))
 
   past-end : (t : Bool) → ltb at (length s) ≡ t → cond t (found at (itemAt sw s at)) F.Nothing ≡ F.Nothing → length s ≤ at
@@ -152,19 +154,37 @@ pub record Ahead (sw : Switches) (s : List ℕ) (at : ℕ) (k : TokenKind) (star
   pub item : itemAt sw s start ≡ token form (stop - suc start)
   pub go-on : tokensFrom sw s at ≡ next (record { form = form; start = start; stop = stop }) (tokensFrom sw s stop)
 
+-- an answer's parts
+token-same : (k l : TokenKind) (a b c d : ℕ) → tokenNext k a c ≡ tokenNext l b d → (k ≡ l) × (a ≡ b) × (c ≡ d)
+token-same k l a b c d p =
+    let q : answered k a c ≡ answered l b d = cc in
+    (ap (λ (t : Token). t .kind) q, ap (λ (t : Token). t .span .start) q, ap (λ (t : Token). t .span .stop) q)
+  where
+    answered : TokenKind → ℕ → ℕ → Token
+    answered k a c = record { kind = k; span = record { start = a; stop = c } }
+
+refused-same : (n m a b : ℕ) → refusedNext n a ≡ refusedNext m b → (n ≡ m) × (a ≡ b)
+refused-same n m a b p =
+    let q : answered n a ≡ answered m b = cc in
+    (ap (λ (r : Refusal). r .number) q, ap (λ (r : Refusal). r .place) q)
+  where
+    answered : ℕ → ℕ → Refusal
+    answered n a = record { number = n; place = a }
+
 module _ (sw : Switches) (s : List ℕ) (at : ℕ) where
   token-ahead : (n : ℕ) (ts : Tokens) (k : TokenKind) (start stop : ℕ) → n ≡ length s → tokensFrom sw s at ≡ ts → Within n at ts
-      → Follows sw at (drop at s) ts → firstOf ts ≡ X.Token k start stop → Ahead sw s at k start stop
+      → Follows sw at (drop at s) ts → firstOf ts ≡ tokenNext k start stop → Ahead sw s at k start stop
   unfolding Within Follows firstOf tokensFrom itemAt
   token-ahead n (next t ts) k start stop e q w f p =
-      let start-is : t .start ≡ start = cc in
-      let stop-is : t .stop ≡ stop = cc in
+      let same = token-same (kindOf (t .form)) k (t .start) start (t .stop) stop p in
+      let start-is = same .1 in
+      let stop-is = same .2 in
       let d : at + (t .stop - at) ≡ t .stop = omega arith in
       let o : at + (t .start - at) ≡ t .start = omega arith in
       let u : at + suc (t .start - at) ≡ suc (t .start) = omega arith in
       record {
         form = t .form;
-        kind = (cc);
+        kind = same .0;
         after = omega arith;
         some = omega arith;
         inside = omega arith;
@@ -181,7 +201,7 @@ module _ (sw : Switches) (s : List ℕ) (at : ℕ) where
   token-ahead n (Tokens.fault number place) k start stop e q w f p = let z : _≡_ {A = ℕ} 0 1 = cc in absurd (omega arith)
 
   -- "the tokens from a place are the next token and the tokens from its end"
-  pub next-ahead : (k : TokenKind) (start stop : ℕ) → at ≤ length s → firstOf (tokensFrom sw s at) ≡ X.Token k start stop
+  pub next-ahead : (k : TokenKind) (start stop : ℕ) → at ≤ length s → firstOf (tokensFrom sw s at) ≡ tokenNext k start stop
       → Ahead sw s at k start stop
   unfolding tokensFrom
   next-ahead k start stop h p =
@@ -202,11 +222,11 @@ module _ (sw : Switches) (s : List ℕ) (at : ℕ) where
       is-end (end p′) q = cc
       is-end (Tokens.fault number p′) q = cc
 
-  pub next-fault : (number place : ℕ) → firstOf (tokensFrom sw s at) ≡ X.Fault number place → tokensFrom sw s at ≡ Tokens.fault number place
+  pub next-fault : (number place : ℕ) → firstOf (tokensFrom sw s at) ≡ refusedNext number place → tokensFrom sw s at ≡ Tokens.fault number place
   unfolding firstOf
   next-fault number place p = is-fault (tokensFrom sw s at) p
     where
-      is-fault : (ts : Tokens) → firstOf ts ≡ X.Fault number place → ts ≡ Tokens.fault number place
+      is-fault : (ts : Tokens) → firstOf ts ≡ refusedNext number place → ts ≡ Tokens.fault number place
       is-fault (next t ts) q = cc
       is-fault (end p′) q = cc
-      is-fault (Tokens.fault n p′) q = cc
+      is-fault (Tokens.fault n p′) q = let same = refused-same n number p′ place q in (λ i. Tokens.fault (same .0 i) (same .1 i))

@@ -314,7 +314,7 @@ keyed-own sw s y h k m n = by-class (eqb c 3) (eqb c 5) refl refl
 unfoldable pub isToken : Found → Bool
 isToken (F.Gap e) = false
 isToken (F.Token k e) = true
-isToken (F.Fault n) = false
+isToken (F.Refused n) = false
 isToken F.Nothing = false
 
 kind-content : (form : Form) → hasContent (keyContent form) ≡ isKeyKind (kindOf form)

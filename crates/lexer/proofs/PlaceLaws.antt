@@ -120,7 +120,7 @@ no-comment [] m n = refl
 no-comment (b ∷ l) m n = rw (ne-eqb b 47 m, ne-eqb b 42 n)
 
 pub slash-found : (s : List ℕ) (at : ℕ) → (getD s (at + 1) 0 ≡ 47 → ⊥) → (getD s (at + 1) 0 ≡ 42 → ⊥)
-    → F.Fault 3 ≡ found at (comment (drop (at + 1) s))
+    → F.Refused 3 ≡ found at (comment (drop (at + 1) s))
 unfolding found
 slash-found s at m n =
     let z : at + 1 + 0 ≡ at + 1 = omega arith in
@@ -141,7 +141,7 @@ unfolding measured stringFound kindOf
 bytes-found isText end n none e m = cc
 bytes-found isText end n (some bytes) e m = rw e (cc)
 
-pub content-refused : (isText : Bool) (end : ℕ) (c : Option (List ℕ)) → measured c ≡ M.Refused → F.Fault 4 ≡ stringFound isText end c
+pub content-refused : (isText : Bool) (end : ℕ) (c : Option (List ℕ)) → measured c ≡ M.Refused → F.Refused 4 ≡ stringFound isText end c
 unfolding measured stringFound
 content-refused isText end none m = refl
 content-refused isText end (some bytes) m = cc
@@ -160,15 +160,15 @@ module _ (sw : Switches) (isText : Bool) (body : Body) (at head k : ℕ) (l : Li
       (r-is ∙ (λ i. stringFound isText (end-is i) (contentOf sw isText body (take (t-is i) l)))
       ∙ string-item isText at (head + n) (contentOf sw isText body (take (n - suc k) l)))
 
-  pub inside-found : (n : ℕ) → closing (hasEscapes body) k l ≡ C.Inside n → F.Fault 3 ≡ found at (stringItem sw isText body head k l)
+  pub inside-found : (n : ℕ) → closing (hasEscapes body) k l ≡ C.Inside n → F.Refused 3 ≡ found at (stringItem sw isText body head k l)
   unfolding stringItem closedItem found
   inside-found n e = rw e
 
-  pub escaped-found : (n : ℕ) → closing (hasEscapes body) k l ≡ C.Escaped n → F.Fault 3 ≡ found at (stringItem sw isText body head k l)
+  pub escaped-found : (n : ℕ) → closing (hasEscapes body) k l ≡ C.Escaped n → F.Refused 3 ≡ found at (stringItem sw isText body head k l)
   unfolding stringItem closedItem found
   escaped-found n e = rw e
 
-  pub hashes-found : (j n : ℕ) → closing (hasEscapes body) k l ≡ C.Hashes j n → F.Fault 3 ≡ found at (stringItem sw isText body head k l)
+  pub hashes-found : (j n : ℕ) → closing (hasEscapes body) k l ≡ C.Hashes j n → F.Refused 3 ≡ found at (stringItem sw isText body head k l)
   unfolding stringItem closedItem found
   hashes-found j n e = rw e
 
@@ -202,7 +202,7 @@ module _ (s : List ℕ) (at end : ℕ) (h : at < length s) where
       rw (sym (ap hasShape (run-part s at (front isWordByte (drop (at + 1) s)) end h e)) ∙ t) (ap (F.Token K.Word) (omega arith))
 
   pub word-bad : end ≡ at + 1 + front isWordByte (drop (at + 1) s) → hasShape (take (end - at) (drop at s)) ≡ false
-      → F.Fault 3 ≡ found at (wordItem (getD s at 0) (drop (at + 1) s))
+      → F.Refused 3 ≡ found at (wordItem (getD s at 0) (drop (at + 1) s))
   unfolding wordItem found
   word-bad e t = rw (sym (ap hasShape (run-part s at (front isWordByte (drop (at + 1) s)) end h e)) ∙ t)
 

@@ -27,14 +27,22 @@ kindOf (decimal minus m p) = K.Decimal minus m p
 unfoldable pub found : (at : ℕ) → Item → Found
 found at (gap more) = F.Gap (at + suc more)
 found at (token form more) = F.Token (kindOf form) (at + suc more)
-found at (fault number) = F.Fault number
+found at (fault number) = F.Refused number
 
 -- what stands at a place of a text; from its end on nothing does
 unfoldable pub foundAt : Switches → List ℕ → (at : ℕ) → Found
 foundAt sw s at = cond (ltb at (length s)) (found at (itemAt sw s at)) F.Nothing
 
+-- the answer that a token of this kind comes next, with its span
+abbrev pub tokenNext : TokenKind → (start stop : ℕ) → Next
+tokenNext kind start stop = X.Token (record { kind = kind; span = record { start = start; stop = stop } })
+
+-- the answer that this is refused next
+abbrev pub refusedNext : (number place : ℕ) → Next
+refusedNext number place = X.Refused (record { number = number; place = place })
+
 -- the next token, the end or the first fault
 unfoldable pub firstOf : Tokens → Next
-firstOf (next t ts) = X.Token (kindOf (t .form)) (t .start) (t .stop)
+firstOf (next t ts) = tokenNext (kindOf (t .form)) (t .start) (t .stop)
 firstOf (end place) = X.End place
-firstOf (Tokens.fault number place) = X.Fault number place
+firstOf (Tokens.fault number place) = refusedNext number place

@@ -61,7 +61,7 @@ passes R.Hash b = is "#" b
 
 -- a string token that ends before `end`, by its content
 unfoldable pub stringFound : (isText : Bool) (end : ℕ) → Option (List ℕ) → Found
-stringFound isText end none = F.Fault 4
+stringFound isText end none = F.Refused 4
 stringFound isText end (some content) = F.Token (kindOf (stringForm isText content)) end
 
 -- ---- a token by itself

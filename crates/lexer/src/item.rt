@@ -33,6 +33,9 @@ use literals::decoder::Body;
 use literals::number::Meaning;
 use literals::number::number_of;
 use literals::word::has_shape;
+use text::refusal;
+use text::refusal::Refusal;
+use text::span::Span;
 use text::switches::Switches;
 
 // A token's form with its value: a bracket or mark with its byte, a word, a text or bytes with the length of its content, an
@@ -46,27 +49,26 @@ pub enum TokenKind {
     Decimal { minus: bool, m: u64, p: i64 },
 }
 
-// What stands at a place: a space or a comment with its end, a token with its end, a fault by document 01's number (3 to 6);
+// A token: what it is, and where it stands.
+pub struct Token {
+    pub kind: TokenKind,
+    pub span: Span,
+}
+
+// What stands at a place: a space or a comment with its end, a token with its end, what is refused there by its number (3 to 6);
 // nothing, past the end.
 pub enum Found {
     Gap(usize),
     Token(TokenKind, usize),
-    Fault(u8),
+    Refused(u8),
     Nothing,
 }
 
-// The next token from a place, the text's end, or the first fault.
+// The next token from a place, the text's end, or what is refused before any token.
 pub enum Next {
-    Token {
-        kind: TokenKind,
-        start: usize,
-        end: usize,
-    },
+    Token(Token),
     End(usize),
-    Fault {
-        number: u8,
-        place: usize,
-    },
+    Refused(Refusal),
 }
 
 // The byte at a place; 0 past the end, which opens nothing. Public for the module beside, src/token.rt, and
@@ -94,7 +96,7 @@ fn comment_item(text: &[u8], at: usize) -> Found
     if b == b'*' {
         return block_item(text, at);
     }
-    Found::Fault(3)
+    Found::Refused(refusal::MALFORMED)
 }
 
 // `/*` at `at`.
@@ -103,8 +105,8 @@ fn block_item(text: &[u8], at: usize) -> Found
     ensures { λ r. ⌜ r ≡ found at (blockItem (block (drop (at + 2) (now (text .entry))))) ⌝ }
 {
     match find_block(text, at + 2) {
-        Block::Inside(_) => Found::Fault(3),
-        Block::Starred(_) => Found::Fault(3),
+        Block::Inside(_) => Found::Refused(refusal::MALFORMED),
+        Block::Starred(_) => Found::Refused(refusal::MALFORMED),
         Block::Closed(n) => Found::Gap(at + 2 + n),
     }
 }
@@ -142,7 +144,7 @@ fn content_item(
             }
             Found::Token(TokenKind::Bytes(n), end)
         }
-        Measure::Refused => Found::Fault(4),
+        Measure::Refused => Found::Refused(refusal::BAD_CONTENT),
     }
 }
 
@@ -161,9 +163,9 @@ fn string_item(
 {
     let from = at + 1 + head;
     match find_closing(text, from, has_escapes(body), k) {
-        Closing::Inside(_) => Found::Fault(3),
-        Closing::Escaped(_) => Found::Fault(3),
-        Closing::Hashes(_, _) => Found::Fault(3),
+        Closing::Inside(_) => Found::Refused(refusal::MALFORMED),
+        Closing::Escaped(_) => Found::Refused(refusal::MALFORMED),
+        Closing::Hashes(_, _) => Found::Refused(refusal::MALFORMED),
         Closing::Closed(n) => content_item(
             sw,
             text,
@@ -187,7 +189,7 @@ fn raw_item(sw: Switches, text: &[u8], at: usize, istext: bool, head: usize) -> 
         let k = quote - from;
         return string_item(sw, text, at, istext, Body::Raw, head + k + 1, k);
     }
-    Found::Fault(3)
+    Found::Refused(refusal::MALFORMED)
 }
 
 // A quote or a hash: after `r` or `br` it opens a raw string. Public for the module beside.
@@ -227,7 +229,7 @@ fn word_item(text: &[u8], at: usize) -> Found
     if has_shape(&text[at..end]) {
         return Found::Token(TokenKind::Word, end);
     }
-    Found::Fault(3)
+    Found::Refused(refusal::MALFORMED)
 }
 
 fn number_item(text: &[u8], at: usize) -> Found
@@ -238,8 +240,8 @@ fn number_item(text: &[u8], at: usize) -> Found
     match number_of(&text[at..end]) {
         Meaning::Integer(z) => Found::Token(TokenKind::Integer(z), end),
         Meaning::Decimal { minus, m, p } => Found::Token(TokenKind::Decimal { minus, m, p }, end),
-        Meaning::Malformed => Found::Fault(3),
-        Meaning::TooWide => Found::Fault(5),
+        Meaning::Malformed => Found::Refused(refusal::MALFORMED),
+        Meaning::TooWide => Found::Refused(refusal::TOO_WIDE),
     }
 }
 
@@ -322,18 +324,18 @@ pub fn item_at(sw: Switches, text: &[u8], at: usize) -> Found
         5 => string_item(sw, text, at, true, Body::Quoted, 0, 0),
         6 => {
             if sw.ticks {
-                return Found::Fault(6);
+                return Found::Refused(refusal::TEMPORAL);
             }
-            Found::Fault(3)
+            Found::Refused(refusal::MALFORMED)
         }
         7 => Found::Token(TokenKind::Mark(b), at + 1),
         8 => comment_item(text, at),
         9 => number_item(text, at),
-        _ => Found::Fault(3),
+        _ => Found::Refused(refusal::MALFORMED),
     }
 }
 
-// The next token from a place, spaces and comments skipped; or the end; or the first fault.
+// The next token from a place, spaces and comments skipped; or the end; or what is refused before any token.
 pub fn next_token(sw: Switches, text: &[u8], at: usize) -> Next
     ensures { λ r. ⌜ r ≡ firstOf (tokensFrom sw (now (text .entry)) at) ⌝ }
 {
@@ -344,14 +346,14 @@ pub fn next_token(sw: Switches, text: &[u8], at: usize) -> Next
                 i = end;
             }
             Found::Token(kind, end) => {
-                return Next::Token {
-                    kind,
+                let span = Span {
                     start: i,
-                    end,
+                    stop: end,
                 };
+                return Next::Token(Token { kind, span });
             }
-            Found::Fault(number) => {
-                return Next::Fault { number, place: i };
+            Found::Refused(number) => {
+                return Next::Refused(Refusal { number, place: i });
             }
             Found::Nothing => {
                 return Next::End(i);

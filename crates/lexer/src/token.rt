@@ -153,7 +153,7 @@ pub fn is_keyed(sw: Switches, token: &[u8]) -> bool
             }
             false
         }
-        Found::Fault(_) => false,
+        Found::Refused(_) => false,
         Found::Nothing => false,
     }
 }
