@@ -48,17 +48,17 @@ capital-from (b ∷ s) h = rw (le-leb 65 b h)
 -- ---- the words of a number
 
 pub integer-words : (n : ℕ) (z : ℤ) → n ≡ twosComplement z
-    → _≡_ {A = Words} (record { kind = 6; a = n % 4294967296; b = n / 4294967296; c = 0 }) (leafOf (T.integer z))
+    → _≡_ {A = Words} (record { kind = 6; low = n % 4294967296; high = n / 4294967296; extra = 0 }) (leafOf (T.integer z))
 unfolding leafOf scalarNumber scalarWords
 integer-words n z e = rw e
 
 module _ (minus : Bool) (m : ℕ) (p : ℤ) (q : ℕ) (q-is : q ≡ plus1000 p) where
   pub minus-words : minus ≡ true
-      → _≡_ {A = Words} (record { kind = 7; a = m % 4294967296; b = m / 4294967296 + 2147483648; c = q }) (leafOf (T.decimal minus m p))
+      → _≡_ {A = Words} (record { kind = 7; low = m % 4294967296; high = m / 4294967296 + 2147483648; extra = q }) (leafOf (T.decimal minus m p))
   unfolding leafOf scalarNumber scalarWords
   minus-words e = rw (e, q-is)
 
-  pub plain-words : minus ≡ false → _≡_ {A = Words} (record { kind = 7; a = m % 4294967296; b = m / 4294967296; c = q }) (leafOf (T.decimal minus m p))
+  pub plain-words : minus ≡ false → _≡_ {A = Words} (record { kind = 7; low = m % 4294967296; high = m / 4294967296; extra = q }) (leafOf (T.decimal minus m p))
   unfolding leafOf scalarNumber scalarWords
   plain-words e = rw (e, q-is, add-zero (m / 4294967296))
 
@@ -115,21 +115,21 @@ module _ (span : Span) where
   word-form b s more (L.integer z) k e = cc
   word-form b s more (L.decimal minus m p) k e = cc
 
-  text-form : (f : Form) (n : ℕ) → kindOf f ≡ K.Text n → B.Scalar (record { kind = 4; a = span .start; b = span .stop; c = n }) ≡ beginBy (begins span f)
+  text-form : (f : Form) (n : ℕ) → kindOf f ≡ K.Text n → B.Scalar (record { kind = 4; low = span .start; high = span .stop; extra = n }) ≡ beginBy (begins span f)
   unfolding kindOf begins beginBy leafOf scalarNumber scalarWords
   text-form (L.mark x) n e = cc
   text-form (L.word w) n e = cc
-  text-form (L.text c) n e = let h : n ≡ length c = cc in ap (λ (k : ℕ). B.Scalar (record { kind = 4; a = span .start; b = span .stop; c = k })) h
+  text-form (L.text c) n e = let h : n ≡ length c = cc in ap (λ (k : ℕ). B.Scalar (record { kind = 4; low = span .start; high = span .stop; extra = k })) h
   text-form (L.bytes c) n e = cc
   text-form (L.integer z) n e = cc
   text-form (L.decimal minus m p) n e = cc
 
-  bytes-form : (f : Form) (n : ℕ) → kindOf f ≡ K.Bytes n → B.Scalar (record { kind = 5; a = span .start; b = span .stop; c = n }) ≡ beginBy (begins span f)
+  bytes-form : (f : Form) (n : ℕ) → kindOf f ≡ K.Bytes n → B.Scalar (record { kind = 5; low = span .start; high = span .stop; extra = n }) ≡ beginBy (begins span f)
   unfolding kindOf begins beginBy leafOf scalarNumber scalarWords
   bytes-form (L.mark x) n e = cc
   bytes-form (L.word w) n e = cc
   bytes-form (L.text c) n e = cc
-  bytes-form (L.bytes c) n e = let h : n ≡ length c = cc in ap (λ (k : ℕ). B.Scalar (record { kind = 5; a = span .start; b = span .stop; c = k })) h
+  bytes-form (L.bytes c) n e = let h : n ≡ length c = cc in ap (λ (k : ℕ). B.Scalar (record { kind = 5; low = span .start; high = span .stop; extra = k })) h
   bytes-form (L.integer z) n e = cc
   bytes-form (L.decimal minus m p) n e = cc
 
@@ -218,15 +218,15 @@ module _ (sw : Switches) (s : List ℕ) (start stop : ℕ) where
         ∙ ap beginBy
         (sym (word-form (spanOf (tokenAt sw s start stop)) (getD s start 0) (drop (suc start) s) (stop - suc start) (formAt sw s start) kept (t .kind ∙ e))))
 
-    pub text-begun : (n : ℕ) → k ≡ K.Text n → Begun sw s start stop (B.Scalar (record { kind = 4; a = start; b = stop; c = n }))
+    pub text-begun : (n : ℕ) → k ≡ K.Text n → Begun sw s start stop (B.Scalar (record { kind = 4; low = start; high = stop; extra = n }))
     unfolding spanOf
     text-begun n e =
-        begun (B.Scalar (record { kind = 4; a = start; b = stop; c = n })) (text-form (spanOf (tokenAt sw s start stop)) (formAt sw s start) n (t .kind ∙ e))
+        begun (B.Scalar (record { kind = 4; low = start; high = stop; extra = n })) (text-form (spanOf (tokenAt sw s start stop)) (formAt sw s start) n (t .kind ∙ e))
 
-    pub bytes-begun : (n : ℕ) → k ≡ K.Bytes n → Begun sw s start stop (B.Scalar (record { kind = 5; a = start; b = stop; c = n }))
+    pub bytes-begun : (n : ℕ) → k ≡ K.Bytes n → Begun sw s start stop (B.Scalar (record { kind = 5; low = start; high = stop; extra = n }))
     unfolding spanOf
     bytes-begun n e =
-        begun (B.Scalar (record { kind = 5; a = start; b = stop; c = n })) (bytes-form (spanOf (tokenAt sw s start stop)) (formAt sw s start) n (t .kind ∙ e))
+        begun (B.Scalar (record { kind = 5; low = start; high = stop; extra = n })) (bytes-form (spanOf (tokenAt sw s start stop)) (formAt sw s start) n (t .kind ∙ e))
 
     pub integer-begun : (z : ℤ) (l : Words) → k ≡ K.Integer z → l ≡ leafOf (T.integer z) → Begun sw s start stop (B.Scalar l)
     unfolding beginBy

@@ -21,20 +21,21 @@ use Rattle.reader.specs.declared.tree.Children.{Children}
 use Rattle.reader.specs.declared.tree.Due.{Due}
 use Rattle.reader.specs.declared.tree.Spot.{Spot}
 use Rattle.text.specs.declared.span.Span as CS
-use Rattle.reader.specs.declared.tree.Token as CT
+use Rattle.lexer.specs.declared.item.Token as CT
 use Rattle.reader.specs.declared.items.Item.{Item}
 use Rattle.reader.specs.declared.items.Item.the-variants as I
 use Rattle.reader.specs.declared.values.Answer.{Answer}
 use Rattle.reader.specs.declared.values.Answer.the-variants as A
-use Rattle.reader.specs.Tree.{Span, branch, Forest, nil, snoc, count, size, sizes, headOf, rows, rowsAll}
+use Rattle.reader.specs.Tree.{Span, branch, Forest, nil, snoc, count, size, sizes, headOf, rows, rowsAll, nodeWords}
+use Rattle.reader.specs.Reading.{maxText}
 use Rattle.reader.specs.Syntax.{Label, label, Frame, frame, Slot, after, more, Mode, value, inside, Config, config, refuseIf, Begins, container, isObject, headBy, ended, finished, noNode, counted, valueStep, Outcome, afterStep}
 use Rattle.reader.specs.Internal.Values
 use Rattle.reader.specs.Internal.Tokens.{beginsAt}
-use Rattle.reader.specs.Internal.Values.{spanAt, labelOf, Sane, freshDue, rowOf, branchWords, runFrom, nodesAt, opened, openedHere, Chain, slotOf, innerAt, Known, Look, Valued, Ends, Refuses, ItemIs, Ready, Roomy, Took, Stops, RanIs, openedBy, ReadAs}
+use Rattle.reader.specs.Internal.Values.{spanAt, labelOf, SpansApart, freshDue, rowOf, branchWords, runFrom, nodesAt, opened, openedHere, Chain, slotOf, innerAt, Known, Look, Valued, Ends, Refuses, ItemIs, Ready, Roomy, Took, Stops, RanIs, openedBy, ReadAs}
 use Rattle.reader.proofs.ItemRun.{Follows, Closes, FollowsNot}
 use Rattle.reader.proofs.SizeLaws.{sizes-snoc, count-snoc}
 use Rattle.reader.proofs.KeyWalk.{chain-more, getD-sets}
-use Rattle.reader.proofs.RowLaws.{glue, crown, size-pos, row-says}
+use Rattle.reader.proofs.RowLaws.{rows-child, rows-branch, size-pos, row-says}
 
 pub record Body (sw : Switches) (limits : Limits) (s : List ℕ) (kind : Kind) (l : Label) (ω : List Frame → Outcome) (o d n : ℕ) (tin : List ℕ) (ts : Forest) (ks : List (List ℕ)) (τ : List Frame → Config) (i m z : ℕ) (tab : List ℕ) : Type 0 where
   pub counted : z ≡ count ts
@@ -43,9 +44,9 @@ pub record Body (sw : Switches) (limits : Limits) (s : List ℕ) (kind : Kind) (
   pub below : m ≤ limits .nodes
   pub ahead : o < i
   pub inside : i ≤ length s
-  pub room : 12 * limits .nodes ≤ length tin
+  pub room : nodeWords * limits .nodes ≤ length tin
   pub long : length tab ≡ length tin
-  pub wrote : tab ≡ sets tin (12 * (n + 1)) (rowsAll n (n + 1) ts)
+  pub wrote : tab ≡ sets tin (nodeWords * (n + 1)) (rowsAll n (n + 1) ts)
   pub chained : isObject kind ≡ true → Chain sw s tab (n + 1) m ks
   pub ran : (stack : List Frame) → length stack ≡ d → ω stack ≡ runFrom sw limits s i (τ stack)
 
@@ -56,11 +57,11 @@ Within sw limits s kind l ω o d n tin ts ks i m z tab = Body sw limits s kind l
 
 module _ {rules : Rules} {s : List ℕ} {due : Due} {t : CT.Token} {b : Begins} {tin tout : List ℕ} {r : Answer} where
   pub took : {j m : ℕ} → r ≡ A.Done j m → ReadAs rules s due t b tin tout r
-      → Took (rules .sw) (rules .limits) s (openedBy rules s due t b) (labelOf (due .label)) (t .start) (due .spot .depth) (due .spot .parent) (due .spot .node) tin tout j m
-  took e h = subst (RanIs (rules .sw) (rules .limits) s (openedBy rules s due t b) (labelOf (due .label)) (t .start) (due .spot .depth) (due .spot .parent) (due .spot .node) tin tout) e (h .is)
+      → Took (rules .sw) (rules .limits) s (openedBy rules s due t b) (labelOf (due .label)) (t .span .start) (due .spot .depth) (due .spot .parent) (due .spot .node) tin tout j m
+  took e h = subst (RanIs (rules .sw) (rules .limits) s (openedBy rules s due t b) (labelOf (due .label)) (t .span .start) (due .spot .depth) (due .spot .parent) (due .spot .node) tin tout) e (h .is)
 
-  pub stops : {f : Refusal} → r ≡ A.Refused f → ReadAs rules s due t b tin tout r → Stops (openedBy rules s due t b) (due .spot .depth) (f .number) (f .place)
-  stops e h = subst (RanIs (rules .sw) (rules .limits) s (openedBy rules s due t b) (labelOf (due .label)) (t .start) (due .spot .depth) (due .spot .parent) (due .spot .node) tin tout) e (h .is)
+  pub stops : {f : Refusal} → r ≡ A.Refused f → ReadAs rules s due t b tin tout r → Stops (openedBy rules s due t b) (due .spot .depth) (due .spot .node) tin tout (f .number) (f .place)
+  stops e h = subst (RanIs (rules .sw) (rules .limits) s (openedBy rules s due t b) (labelOf (due .label)) (t .span .start) (due .spot .depth) (due .spot .parent) (due .spot .node) tin tout) e (h .is)
 
   -- the value that is due, or its token's beginning, by another name
   pub due-as : {other : Due} → due ≡ other → ReadAs rules s due t b tin tout r → ReadAs rules s other t b tin tout r
@@ -71,42 +72,41 @@ module _ {rules : Rules} {s : List ℕ} {due : Due} {t : CT.Token} {b : Begins} 
 
 module _ {sw : Switches} {s : List ℕ} {kind : Kind} {tab : List ℕ} {c : Children} {i : ℕ} {r : Item} where
   pub value-is : {x : ℕ} {t : CT.Token} {key : CS.Span} → c .first ≡ x → r ≡ I.Value t key → Values.ItemAt sw s kind tab c i r
-      → Valued sw s kind tab i x (c .next) (c .count) (t .kind) (t .start) (t .stop) (key .start) (key .stop)
+      → Valued sw s kind tab i x (c .next) (c .count) (t .kind) (t .span .start) (t .span .stop) (key .start) (key .stop)
   value-is {x} {t} {key} f e h =
-      subst (λ (y : ℕ). Valued sw s kind tab i y (c .next) (c .count) (t .kind) (t .start) (t .stop) (key .start) (key .stop)) f
+      subst (λ (y : ℕ). Valued sw s kind tab i y (c .next) (c .count) (t .kind) (t .span .start) (t .span .stop) (key .start) (key .stop)) f
       (subst (ItemIs sw s kind tab i (c .first) (c .next) (c .count)) e (h .is))
 
   pub last-is : {x j : ℕ} → c .first ≡ x → r ≡ I.Last j → Values.ItemAt sw s kind tab c i r → Ends sw s kind tab i x (c .next) (c .count) j
   last-is {x} {j} f e h =
       subst (λ (y : ℕ). Ends sw s kind tab i y (c .next) (c .count) j) f (subst (ItemIs sw s kind tab i (c .first) (c .next) (c .count)) e (h .is))
 
-  pub wrong-is : {x : ℕ} {f : Refusal} → c .first ≡ x → r ≡ I.Wrong f → Values.ItemAt sw s kind tab c i r → Refuses sw s kind tab i x (c .next) (c .count) (f .number) (f .place)
-  wrong-is {x} {f} q e h =
+  pub refused-is : {x : ℕ} {f : Refusal} → c .first ≡ x → r ≡ I.Refused f → Values.ItemAt sw s kind tab c i r → Refuses sw s kind tab i x (c .next) (c .count) (f .number) (f .place)
+  refused-is {x} {f} q e h =
       subst (λ (y : ℕ). Refuses sw s kind tab i y (c .next) (c .count) (f .number) (f .place)) q (subst (ItemIs sw s kind tab i (c .first) (c .next) (c .count)) e (h .is))
 
 -- ---- a value that is due afresh
 
 module _ {rules : Rules} {s : List ℕ} {any : Bool} {key : CS.Span} {spot : Spot} {due : Due} {t : CT.Token} {tin tout : List ℕ} {r : Answer} where
-  pub fresh-took : {j m : ℕ} → due ≡ freshDue any (t .start) key spot → r ≡ A.Done j m → ReadAs rules s due t (beginsAt (rules .sw) s t) tin tout r
-      → Took (rules .sw) (rules .limits) s (openedHere (rules .sw) (rules .limits) s (t .start) (t .stop) any (spanAt (key .start) (key .stop)) (spot .node)) (label (t .start) (spanAt (key .start) (key .stop)) none) (t .start) (spot .depth) (spot .parent) (spot .node) tin tout j m
+  pub fresh-took : {j m : ℕ} → due ≡ freshDue any (t .span .start) key spot → r ≡ A.Done j m → ReadAs rules s due t (beginsAt (rules .sw) s t) tin tout r
+      → Took (rules .sw) (rules .limits) s (openedHere (rules .sw) (rules .limits) s (t .span .start) (t .span .stop) any (spanAt (key .start) (key .stop)) (spot .node)) (label (t .span .start) (spanAt (key .start) (key .stop)) none) (t .span .start) (spot .depth) (spot .parent) (spot .node) tin tout j m
   unfolding labelOf spanAt
-  fresh-took e q h = took q (due-as {other = freshDue any (t .start) key spot} e h)
+  fresh-took e q h = took q (due-as {other = freshDue any (t .span .start) key spot} e h)
 
-  pub fresh-stops : {f : Refusal} → due ≡ freshDue any (t .start) key spot → r ≡ A.Refused f → ReadAs rules s due t (beginsAt (rules .sw) s t) tin tout r
-      → Stops (openedHere (rules .sw) (rules .limits) s (t .start) (t .stop) any (spanAt (key .start) (key .stop)) (spot .node)) (spot .depth) (f .number) (f .place)
+  pub fresh-stops : {f : Refusal} → due ≡ freshDue any (t .span .start) key spot → r ≡ A.Refused f → ReadAs rules s due t (beginsAt (rules .sw) s t) tin tout r
+      → Stops (openedHere (rules .sw) (rules .limits) s (t .span .start) (t .span .stop) any (spanAt (key .start) (key .stop)) (spot .node)) (spot .depth) (spot .node) tin tout (f .number) (f .place)
   unfolding labelOf spanAt
-  fresh-stops e q h = stops q (due-as {other = freshDue any (t .start) key spot} e h)
+  fresh-stops e q h = stops q (due-as {other = freshDue any (t .span .start) key spot} e h)
 
--- its label is sane, and it has room
 pub fresh-ready : {limits : Limits} {tab : List ℕ} {any : Bool} {start : ℕ} {key : CS.Span} {spot : Spot} {due : Due} → due ≡ freshDue any start key spot
-    → Roomy limits tab → spot .node ≤ limits .nodes → start ≤ 65536 → (key .stop ≡ 0 → key .start ≡ 0) → key .start ≤ 65536 → key .stop ≤ 65536 → Ready limits tab due
-fresh-ready {limits} {tab} e w b p ok a c =
+    → Roomy limits tab → spot .node ≤ limits .nodes → (key .stop ≡ 0 → key .start ≡ 0) → Ready limits tab due
+fresh-ready {limits} {tab} e w b ok =
     subst (Ready limits tab) (sym e)
     (record {
       table = w;
       counted = λ q. absurd (true≢false q);
       below = b;
-      label = record { keys = ok; names = λ _. refl; start-low = p; key-low = a; key-stop-low = c; name-low = omega arith; name-stop-low = omega arith };
+      label = record { keys = ok; names = λ _. refl };
       unnamed = λ _. refl;
     })
 
@@ -119,7 +119,13 @@ module _ {sw : Switches} {limits : Limits} {s : List ℕ} {kind : Kind} {l : Lab
   known : {ts : Forest} {ks : List (List ℕ)} {τ : List Frame → Config} {i m z : ℕ} {tab : List ℕ} → Body sw limits s kind l ω o d n tin ts ks τ i m z tab → Known sw s kind tab (n + 1) m ks
   known B = record { chain = B .chained }
 
-  pub body-look : {ts : Forest} {ks : List (List ℕ)} {i : ℕ} {tab : List ℕ} {c : Children} → c .first ≡ n + 1 → length s ≤ 65536
+  -- the children's rows are behind the container's own
+  body-kept : {ts : Forest} {ks : List (List ℕ)} {τ : List Frame → Config} {i m z : ℕ} {tab : List ℕ} → Body sw limits s kind l ω o d n tin ts ks τ i m z tab
+      → (x : ℕ) → x < nodeWords * n → getD tab x 0 ≡ getD tin x 0
+  body-kept {ts} B x h =
+      ap (λ (u : List ℕ). getD u x 0) (B .wrote) ∙ getD-sets (rowsAll n (n + 1) ts) tin x (nodeWords * (n + 1)) (omega arith)
+
+  pub body-look : {ts : Forest} {ks : List (List ℕ)} {i : ℕ} {tab : List ℕ} {c : Children} → c .first ≡ n + 1 → length s ≤ maxText
       → Within sw limits s kind l ω o d n tin ts ks i (c .next) (c .count) tab → Look sw s kind tab c i
   body-look {ts} {ks} {i} {tab} {c} e h B =
       record { inside = B .inside; short = h; chained = λ q. record { keys = ks; chain = subst (λ (x : ℕ). Chain sw s tab x (c .next) ks) (sym e) (B .chained q) } }
@@ -146,15 +152,15 @@ module _ {sw : Switches} {limits : Limits} {s : List ℕ} {kind : Kind} {l : Lab
         inside = T .inside;
         room = r;
         long = L ∙ B .long;
-        wrote = glue tin tab out n m ts (T .tree) (B .grew) (B .wrote) (T .wrote);
+        wrote = rows-child tin tab out n m ts (T .tree) (B .grew) (B .wrote) (T .wrote);
         chained =
             λ h.
             subst (λ (js : List (List ℕ)). Chain sw s out (n + 1) e js) (sym (I .added h ks))
             (subst (λ (x : ℕ). Chain sw s out (n + 1) x (ks ++ (I .content ∷ []))) (sym g)
             (chain-more sw s tab out m (m + size (T .tree)) a b (I .content)
-            (λ x lt. ap (λ (u : List ℕ). getD u x 0) (T .wrote) ∙ getD-sets (rows n m (T .tree)) tab x (12 * m) lt)
+            (λ x lt. ap (λ (u : List ℕ). getD u x 0) (T .wrote) ∙ getD-sets (rows n m (T .tree)) tab x (nodeWords * m) lt)
             L
-            (row-says tab out n m a b (T .tree) (T .keyed) (I .sane) (omega (arith, B .long)) (T .wrote))
+            (row-says tab out n m a b (T .tree) (T .keyed) (I .apart) (omega (arith, B .long)) (T .wrote))
             (omega (arith, B .long)) (omega arith) (I .key h) (n + 1) ks (B .chained h)));
         ran =
             λ stack h.
@@ -221,14 +227,15 @@ module _ {sw : Switches} {limits : Limits} {s : List ℕ} {kind : Kind} {l : Lab
       }
 
   pub body-wrong : {ts : Forest} {ks : List (List ℕ)} {i m z : ℕ} {tab : List ℕ} {c q : ℕ}
-      → Within sw limits s kind l ω o d n tin ts ks i m z tab → Refuses sw s kind tab i (n + 1) m z c q → Stops ω d c q
-  body-wrong {ts} {ks} B I = record { ran = λ stack h. B .ran stack h ∙ I .ran limits l ts ks stack (known B) }
+      → Within sw limits s kind l ω o d n tin ts ks i m z tab → Refuses sw s kind tab i (n + 1) m z c q → Stops ω d n tin tab c q
+  body-wrong {ts} {ks} B I = record { ran = λ stack h. B .ran stack h ∙ I .ran limits l ts ks stack (known B); kept = body-kept B }
 
-  pub body-stop : {ts : Forest} {ks : List (List ℕ)} {i m z : ℕ} {tab : List ℕ} {k : TokenKind} {start stop a b c q : ℕ}
+  pub body-stop : {ts : Forest} {ks : List (List ℕ)} {i m z : ℕ} {tab : List ℕ} {k : TokenKind} {start stop a b : ℕ} {out : List ℕ} {c q : ℕ}
       → Within sw limits s kind l ω o d n tin ts ks i m z tab → Valued sw s kind tab i (n + 1) m z k start stop a b
-      → Stops (openedHere sw limits s start stop true (spanAt a b) m) (d + 1) c q → Stops ω d c q
-  body-stop {ts} {ks} B I T =
+      → Stops (openedHere sw limits s start stop true (spanAt a b) m) (d + 1) m tab out c q → Stops ω d n tin out c q
+  body-stop {ts} {ks} {i} {m} B I T =
       record {
+        kept = λ x h. T .kept x (omega (arith, B .grew)) ∙ body-kept B x h;
         ran =
             λ stack h.
             let u : suc (length stack) ≡ d + 1 = omega arith in
@@ -236,23 +243,23 @@ module _ {sw : Switches} {limits : Limits} {s : List ℕ} {kind : Kind} {l : Lab
       }
 
   pub body-off : {ts : Forest} {ks : List (List ℕ)} {i m z : ℕ} {tab : List ℕ} {c q : ℕ}
-      → Body sw limits s kind l ω o d n tin ts ks (λ stack. config (frame kind l ts ks ∷ stack) (inside after) m) i m z tab → FollowsNot sw s kind i c q → Stops ω d c q
-  body-off {ts} {ks} {i} {m} B A = record { ran = λ stack h. B .ran stack h ∙ A .ran limits l ts ks stack m }
+      → Body sw limits s kind l ω o d n tin ts ks (λ stack. config (frame kind l ts ks ∷ stack) (inside after) m) i m z tab → FollowsNot sw s kind i c q → Stops ω d n tin tab c q
+  body-off {ts} {ks} {i} {m} B A = record { ran = λ stack h. B .ran stack h ∙ A .ran limits l ts ks stack m; kept = body-kept B }
 
 -- the container's row is written
 pub body-took : {rules : Rules} {s : List ℕ} {due : Due} {t : CT.Token} {kind : Kind} {tin : List ℕ} {ts : Forest} {ks : List (List ℕ)} {j m z : ℕ} {tab out : List ℕ} {r : Answer}
-    → Sane (due .label)
-    → Body (rules .sw) (rules .limits) s kind (labelOf (due .label)) (openedBy rules s due t (container kind)) (t .start) (due .spot .depth) (due .spot .node) tin ts ks (λ stack. ended stack m (labelOf (due .label) .name) (branch (headBy (labelOf (due .label)) j) kind ts)) j m z tab
-    → r ≡ A.Done j m → out ≡ sets tab (12 * due .spot .node) (rowOf due (branchWords kind z) j m) → ReadAs rules s due t (container kind) tin out r
+    → SpansApart (due .label)
+    → Body (rules .sw) (rules .limits) s kind (labelOf (due .label)) (openedBy rules s due t (container kind)) (t .span .start) (due .spot .depth) (due .spot .node) tin ts ks (λ stack. ended stack m (labelOf (due .label) .name) (branch (headBy (labelOf (due .label)) j) kind ts)) j m z tab
+    → r ≡ A.Done j m → out ≡ sets tab (nodeWords * due .spot .node) (rowOf due (branchWords kind z) j m) → ReadAs rules s due t (container kind) tin out r
 unfolding size headOf headBy
 body-took {rules} {s} {due} {t} {kind} {tin} {ts} {ks} {j} {m} {z} {tab} {out} {r} ok B e v =
     record {
       is =
-          subst (RanIs (rules .sw) (rules .limits) s (openedBy rules s due t (container kind)) (labelOf (due .label)) (t .start) (due .spot .depth) (due .spot .parent) (due .spot .node) tin out)
+          subst (RanIs (rules .sw) (rules .limits) s (openedBy rules s due t (container kind)) (labelOf (due .label)) (t .span .start) (due .spot .depth) (due .spot .parent) (due .spot .node) tin out)
           (sym e) done;
     }
   where
-    done : Took (rules .sw) (rules .limits) s (openedBy rules s due t (container kind)) (labelOf (due .label)) (t .start) (due .spot .depth) (due .spot .parent) (due .spot .node) tin out j m
+    done : Took (rules .sw) (rules .limits) s (openedBy rules s due t (container kind)) (labelOf (due .label)) (t .span .start) (due .spot .depth) (due .spot .parent) (due .spot .node) tin out j m
     done =
         record {
           tree = branch (headBy (labelOf (due .label)) j) kind ts;
@@ -263,7 +270,7 @@ body-took {rules} {s} {due} {t} {kind} {tin} {ts} {ks} {j} {m} {z} {tab} {out} {
           below = B .below;
           ahead = B .ahead;
           inside = B .inside;
-          wrote = crown tin tab out (due .label) ok kind (due .spot .parent) (due .spot .node) m z j ts (B .grew) (B .counted) (B .wrote) v;
+          wrote = rows-branch tin tab out (due .label) ok kind (due .spot .parent) (due .spot .node) m z j ts (B .grew) (B .counted) (B .wrote) v;
           ran = B .ran;
         }
 
@@ -284,27 +291,29 @@ node-left nodes true n e h = leb-false nodes n e
 node-left nodes false n e h = h refl
 
 module _ (sw : Switches) (limits : Limits) (s : List ℕ) (start stop : ℕ) (fresh any : Bool) (l : Label) (n d : ℕ) (kind : Kind) where
-  pub open-deep : limits .depth ≤ d → Stops (opened sw limits s start stop fresh any l n (container kind)) d 9 start
+  pub open-deep : limits .depth ≤ d → (tab : List ℕ) → Stops (opened sw limits s start stop fresh any l n (container kind)) d n tab tab 9 start
   unfolding opened valueStep refuseIf afterStep
-  open-deep h =
+  open-deep h tab =
       record {
+        kept = λ x g. refl;
         ran =
             λ stack e.
             let g : limits .depth ≤ length stack = omega arith in
             rw (le-leb (limits .depth) (length stack) g);
       }
 
-  pub open-full : d < limits .depth → (fresh && leb (limits .nodes) n) ≡ true → Stops (opened sw limits s start stop fresh any l n (container kind)) d 10 start
+  pub open-full : d < limits .depth → (fresh && leb (limits .nodes) n) ≡ true → (tab : List ℕ) → Stops (opened sw limits s start stop fresh any l n (container kind)) d n tab tab 10 start
   unfolding opened valueStep refuseIf afterStep
-  open-full h f =
+  open-full h f tab =
       record {
+        kept = λ x g. refl;
         ran =
             λ stack e.
             let g : length stack < limits .depth = omega arith in
             rw (lt-leb (limits .depth) (length stack) g, no-node limits stack (value any none) fresh n, f);
       }
 
-  pub body-start : (tin : List ℕ) → d < limits .depth → (fresh && leb (limits .nodes) n) ≡ false → n < limits .nodes → start < stop → stop ≤ length s → 12 * limits .nodes ≤ length tin
+  pub body-start : (tin : List ℕ) → d < limits .depth → (fresh && leb (limits .nodes) n) ≡ false → n < limits .nodes → start < stop → stop ≤ length s → nodeWords * limits .nodes ≤ length tin
       → Within sw limits s kind l (opened sw limits s start stop fresh any l n (container kind)) start d n tin nil [] stop (n + 1) 0 tin
   unfolding opened valueStep refuseIf afterStep count sizes rowsAll
   body-start tin h f r o i w =

@@ -20,6 +20,7 @@ use Rattle.reader.specs.declared.tree.Kind.{Kind}
 use Rattle.reader.specs.declared.tree.Kind.the-variants.{Object}
 use Rattle.reader.specs.declared.tree.Limits.{Limits}
 use Rattle.text.specs.declared.refusal.Refusal.{Refusal}
+use Rattle.text.specs.Refusal.{refusal}
 use Rattle.reader.specs.declared.tree.Children.{Children}
 use Rattle.text.specs.declared.span.Span as CS
 use Rattle.reader.specs.declared.items.Ahead.{Ahead}
@@ -30,6 +31,7 @@ use Rattle.reader.specs.declared.items.After.the-variants as X
 use Rattle.reader.specs.declared.items.Item.{Item}
 use Rattle.reader.specs.declared.items.Item.the-variants as I
 use Rattle.reader.specs.Tree.{Span, branch, Forest}
+use Rattle.reader.specs.Reading.{maxText}
 use Rattle.reader.specs.Syntax.{Label, Frame, frame, lone, after, more, value, inside, colon, config, go, spanOf, isMark, isObject, closer, keyOf, headBy, ended, refuseIf, holds, keyStep, emptyByComma, childStep, modeStep, step, refused, atEnd}
 use Rattle.reader.specs.Internal.Tokens.{formAt, tokenAt, TokenAt}
 use Rattle.reader.specs.Internal.Values
@@ -55,7 +57,7 @@ module _ {sw : Switches} {s : List ℕ} {from want : ℕ} {r : Only} where
   pub told-at : {stop : ℕ} → from ≤ length s → r ≡ Only.At stop → r ≡ onlyAt sw s from want → Marked sw s from want stop
   told-at {stop} h e q = only-at sw s from want h stop (sym q ∙ e)
 
-  pub told-not : {f : Refusal} → from ≤ length s → r ≡ Only.Not f → r ≡ onlyAt sw s from want → NotMarked sw s from want (f .number) (f .place)
+  pub told-not : {f : Refusal} → from ≤ length s → r ≡ Only.Refused f → r ≡ onlyAt sw s from want → NotMarked sw s from want (f .number) (f .place)
   told-not {f} h e q = only-not sw s from want h f (sym q ∙ e)
 
 -- ---- arrays and tuples
@@ -113,8 +115,8 @@ module _ (sw : Switches) (s : List ℕ) (kind : Kind) (tab : List ℕ) (i x m z 
       record {
         token = p .token;
         ahead = p .ahead;
-        sane = λ q. refl;
-        small = (omega arith, omega arith);
+        apart = λ q. refl;
+        short = (omega arith, omega arith);
         content = [];
         key = λ q. absurd (false≢true (sym o ∙ q));
         keys = λ ks. ks;
@@ -157,7 +159,7 @@ pub record FollowsNot (sw : Switches) (s : List ℕ) (kind : Kind) (i number pla
 abbrev pub NextIs : Switches → List ℕ → Kind → (i : ℕ) → After → Type 0
 NextIs sw s kind i (X.More j) = Follows sw s kind i j
 NextIs sw s kind i (X.Over j) = Closes sw s kind i j
-NextIs sw s kind i (X.Off f) = FollowsNot sw s kind i (f .number) (f .place)
+NextIs sw s kind i (X.Refused f) = FollowsNot sw s kind i (f .number) (f .place)
 
 module _ (sw : Switches) (s : List ℕ) (kind : Kind) (i : ℕ) where
   module _ (k : TokenKind) (start stop : ℕ) (p : Peeked sw s i k start stop) where
@@ -202,10 +204,10 @@ module _ (sw : Switches) (s : List ℕ) (kind : Kind) (i : ℕ) where
   next-by h (H.Token t) q = by (markIs (t .kind) (closerByte kind)) (markIs (t .kind) 44) refl refl
     where
       by : (b c : Bool) → markIs (t .kind) (closerByte kind) ≡ b → markIs (t .kind) 44 ≡ c
-          → NextIs sw s kind i (cond b (X.Over (t .stop)) (cond c (X.More (t .stop)) (X.Off (record { number = 7; place = t .start }))))
-      by true c e f = after-closes (t .kind) (t .start) (t .stop) (ahead-token sw s i t h q) e
-      by false true e f = after-comma (t .kind) (t .start) (t .stop) (ahead-token sw s i t h q) e f
-      by false false e f = after-other (t .kind) (t .start) (t .stop) (ahead-token sw s i t h q) e f
+          → NextIs sw s kind i (cond b (X.Over (t .span .stop)) (cond c (X.More (t .span .stop)) (X.Refused (refusal 7 (t .span .start)))))
+      by true c e f = after-closes (t .kind) (t .span .start) (t .span .stop) (ahead-token sw s i t h q) e
+      by false true e f = after-comma (t .kind) (t .span .start) (t .span .stop) (ahead-token sw s i t h q) e f
+      by false false e f = after-other (t .kind) (t .span .start) (t .span .stop) (ahead-token sw s i t h q) e f
   next-by h (H.Refused f) q = after-none f q
 
   -- what `after_item` has answered
@@ -235,11 +237,11 @@ span-some a e h = let n : e ≡ 0 → ⊥ = λ q. omega arith in rw (ne-eqb e 0 
 -- after the key from `start` to `stop`: its colon and its value's first token
 abbrev pub AfterKeyIs : Switches → List ℕ → (start stop : ℕ) → Item → Type 0
 AfterKeyIs sw s start stop (I.Value t key) =
-    (key .start ≡ start) × (key .stop ≡ stop) × (stop ≤ t .start) × TokenAt sw s (t .kind) (t .start) (t .stop)
+    (key .start ≡ start) × (key .stop ≡ stop) × (stop ≤ t .span .start) × TokenAt sw s (t .kind) (t .span .start) (t .span .stop)
     × ((limits : Limits) (stack : List Frame) (m : ℕ)
-    → runFrom sw limits s stop (config stack (colon (record { start = start; stop = stop })) m) ≡ openedHere sw limits s (t .start) (t .stop) true (some (record { start = start; stop = stop })) m stack)
+    → runFrom sw limits s stop (config stack (colon (record { start = start; stop = stop })) m) ≡ openedHere sw limits s (t .span .start) (t .span .stop) true (some (record { start = start; stop = stop })) m stack)
 AfterKeyIs sw s start stop (I.Last j) = ⊥
-AfterKeyIs sw s start stop (I.Wrong f) =
+AfterKeyIs sw s start stop (I.Refused f) =
     (limits : Limits) (stack : List Frame) (m : ℕ) → runFrom sw limits s stop (config stack (colon (record { start = start; stop = stop })) m) ≡ refused (f .number) (f .place)
 
 module _ (sw : Switches) (s : List ℕ) (key : CS.Span) where
@@ -269,7 +271,7 @@ module _ (sw : Switches) (s : List ℕ) (key : CS.Span) where
         λ limits stack m.
             mark-go sw limits s (key .stop) (config stack (colon colon-at) m) 58 (p .place) (config stack (value true (some colon-at)) m) (p .mark)
             (colon-goes limits stack m (p .mark .start) (p .place))
-            ∙ value-opens sw limits s (p .place) (t .kind) (t .start) (t .stop) (p .token) true (some colon-at) stack m,
+            ∙ value-opens sw limits s (p .place) (t .kind) (t .span .start) (t .span .stop) (p .token) true (some colon-at) stack m,
       )
   after-by h (H.Refused f) e =
       λ limits stack m.
@@ -371,7 +373,7 @@ module _ (sw : Switches) (s tab : List ℕ) (i x m : ℕ) (k : TokenKind) (start
         (sym (F .is w (key-here sw s k start stop (p .token) y .key) ks (K .chain refl))))
 
     -- what stands after the key is what stands where the child is due
-    pub field-key : length s ≤ 65536 → FoundKey sw s tab x m start stop false → (z : ℕ) (r : Item) → AfterKeyIs sw s start stop r → ItemIs sw s Object tab i x m z r
+    pub field-key : length s ≤ maxText → FoundKey sw s tab x m start stop false → (z : ℕ) (r : Item) → AfterKeyIs sw s start stop r → ItemIs sw s Object tab i x m z r
     unfolding w key-here
     field-key short F z (I.Value u key) A =
         let t = p .token in
@@ -384,8 +386,8 @@ module _ (sw : Switches) (s tab : List ℕ) (i x m : ℕ) (k : TokenKind) (start
         record {
           token = A .3;
           ahead = omega arith;
-          sane = λ q. let z0 : ⊥ = omega arith in absurd z0;
-          small = (omega arith, omega arith);
+          apart = λ q. let z0 : ⊥ = omega arith in absurd z0;
+          short = (omega arith, omega arith);
           content = w;
           key = λ _. rw (c-is, d-is) (key-here sw s k start stop t y .key);
           keys = λ ks. ks ++ (w ∷ []);
@@ -393,9 +395,9 @@ module _ (sw : Switches) (s tab : List ℕ) (i x m : ℕ) (k : TokenKind) (start
           ran =
               λ limits l ts ks stack K.
               new-run F limits l ts ks stack z K ∙ A .4 limits (frame Object l ts (ks ++ (w ∷ [])) ∷ stack) m
-              ∙ ap (λ (q : Option Span). openedHere sw limits s (u .start) (u .stop) true q m (frame Object l ts (ks ++ (w ∷ [])) ∷ stack))
+              ∙ ap (λ (q : Option Span). openedHere sw limits s (u .span .start) (u .span .stop) true q m (frame Object l ts (ks ++ (w ∷ [])) ∷ stack))
               (sym (span-some start stop o) ∙ (λ q. spanAt (sym c-is q) (sym d-is q)));
         }
     field-key short F z (I.Last j) A = absurd A
-    field-key short F z (I.Wrong f) A =
+    field-key short F z (I.Refused f) A =
         record { ran = λ limits l ts ks stack K. new-run F limits l ts ks stack z K ∙ A limits (frame Object l ts (ks ++ (w ∷ [])) ∷ stack) m }

@@ -15,6 +15,7 @@ use Rattle.literals.specs.declared.decoder.Body.{Body}
 use Rattle.literals.specs.Content.{content, sameContent}
 use Rattle.lexer.specs.Token.{tokenContent}
 use Rattle.lexer.specs.Internal.{Keyed}
+use Rattle.reader.specs.Tree.{nodeWords}
 use Rattle.reader.specs.Syntax.{holds}
 use Rattle.reader.specs.Internal.Values.{bytesAt, KeyAt, Link, Chain, Chained, FoundKey}
 
@@ -30,8 +31,8 @@ chain-unique sw s tab x m [] [] C D = refl
 chain-unique sw s tab x m [] (v ∷ js) C D = let L = D .0 in let z : ⊥ = omega arith in absurd z
 chain-unique sw s tab x m (w ∷ ks) [] C D = let L = C .0 in let z : ⊥ = omega arith in absurd z
 chain-unique sw s tab x m (w ∷ ks) (v ∷ js) C D =
-    ap (λ (y : List ℕ). y ∷ ks) (key-unique sw s (getD tab (12 * x + 4) 0) (getD tab (12 * x + 5) 0) w v (C .0 .key) (D .0 .key))
-    ∙ ap (λ (l : List (List ℕ)). v ∷ l) (chain-unique sw s tab (getD tab (12 * x + 8) 0) m ks js (C .1) (D .1))
+    ap (λ (y : List ℕ). y ∷ ks) (key-unique sw s (getD tab (nodeWords * x + 4) 0) (getD tab (nodeWords * x + 5) 0) w v (C .0 .key) (D .0 .key))
+    ∙ ap (λ (l : List (List ℕ)). v ∷ l) (chain-unique sw s tab (getD tab (nodeWords * x + 8) 0) m ks js (C .1) (D .1))
 
 -- the walk for the key w has come to x
 pub record Walk (sw : Switches) (s tab : List ℕ) (from x m : ℕ) (w : List ℕ) : Type 0 where
@@ -51,12 +52,12 @@ module _ (sw : Switches) (s tab : List ℕ) (from m : ℕ) (w : List ℕ) where
   walk-row x A h = link-at x (A .keys) (A .chain) h
 
   -- the span of the child at x, as words that were read
-  pub walk-key : (x b f : ℕ) → Walk sw s tab from x m w → x < m → b ≡ getD tab (12 * x + 4) 0 → f ≡ getD tab (12 * x + 5) 0 → (v : List ℕ) × KeyAt sw s b f v
+  pub walk-key : (x b f : ℕ) → Walk sw s tab from x m w → x < m → b ≡ getD tab (nodeWords * x + 4) 0 → f ≡ getD tab (nodeWords * x + 5) 0 → (v : List ℕ) × KeyAt sw s b f v
   walk-key x b f A h p q = let r = walk-row x A h in (r .0, rw (p, q) (r .1 .key))
 
   -- the next child, where this one's key is another
   on-is : (x : ℕ) (ks : List (List ℕ)) → Chain sw s tab x m ks → ((js : List (List ℕ)) → Chain sw s tab from m js → holds js w ≡ holds ks w) → x < m → (v : List ℕ)
-      → KeyAt sw s (getD tab (12 * x + 4) 0) (getD tab (12 * x + 5) 0) v → sameBytes v w ≡ false → Walk sw s tab from (getD tab (12 * x + 8) 0) m w
+      → KeyAt sw s (getD tab (nodeWords * x + 4) 0) (getD tab (nodeWords * x + 5) 0) v → sameBytes v w ≡ false → Walk sw s tab from (getD tab (nodeWords * x + 8) 0) m w
   unfolding holds
   on-is x [] C f h v k e = let z : ⊥ = omega arith in absurd z
   on-is x (u ∷ ks) C f h v k e =
@@ -67,19 +68,19 @@ module _ (sw : Switches) (s tab : List ℕ) (from m : ℕ) (w : List ℕ) where
             λ js D.
             f js D
             ∙ ap (λ (b : Bool). b || holds ks w)
-            (ap (λ (y : List ℕ). sameBytes y w) (key-unique sw s (getD tab (12 * x + 4) 0) (getD tab (12 * x + 5) 0) u v (C .0 .key) k) ∙ e);
+            (ap (λ (y : List ℕ). sameBytes y w) (key-unique sw s (getD tab (nodeWords * x + 4) 0) (getD tab (nodeWords * x + 5) 0) u v (C .0 .key) k) ∙ e);
       }
 
-  pub walk-on : (x b f y : ℕ) → Walk sw s tab from x m w → x < m → b ≡ getD tab (12 * x + 4) 0 → f ≡ getD tab (12 * x + 5) 0 → y ≡ getD tab (12 * x + 8) 0
+  pub walk-on : (x b f y : ℕ) → Walk sw s tab from x m w → x < m → b ≡ getD tab (nodeWords * x + 4) 0 → f ≡ getD tab (nodeWords * x + 5) 0 → y ≡ getD tab (nodeWords * x + 8) 0
       → (v : List ℕ) → KeyAt sw s b f v → sameBytes v w ≡ false → Walk sw s tab from y m w
   walk-on x b f y A h p q r v k e = rw r (on-is x (A .keys) (A .chain) (A .same-as) h v (rw (p, q) at k) e)
 
-  hit-is : (x : ℕ) (ks : List (List ℕ)) → Chain sw s tab x m ks → x < m → (v : List ℕ) → KeyAt sw s (getD tab (12 * x + 4) 0) (getD tab (12 * x + 5) 0) v → sameBytes v w ≡ true
+  hit-is : (x : ℕ) (ks : List (List ℕ)) → Chain sw s tab x m ks → x < m → (v : List ℕ) → KeyAt sw s (getD tab (nodeWords * x + 4) 0) (getD tab (nodeWords * x + 5) 0) v → sameBytes v w ≡ true
       → holds ks w ≡ true
   unfolding holds
   hit-is x [] C h v k e = let z : ⊥ = omega arith in absurd z
   hit-is x (u ∷ ks) C h v k e =
-      ap (λ (b : Bool). b || holds ks w) (ap (λ (y : List ℕ). sameBytes y w) (key-unique sw s (getD tab (12 * x + 4) 0) (getD tab (12 * x + 5) 0) u v (C .0 .key) k) ∙ e)
+      ap (λ (b : Bool). b || holds ks w) (ap (λ (y : List ℕ). sameBytes y w) (key-unique sw s (getD tab (nodeWords * x + 4) 0) (getD tab (nodeWords * x + 5) 0) u v (C .0 .key) k) ∙ e)
 
   end-is : (x : ℕ) (ks : List (List ℕ)) → Chain sw s tab x m ks → m ≤ x → holds ks w ≡ false
   unfolding holds
@@ -87,7 +88,7 @@ module _ (sw : Switches) (s tab : List ℕ) (from m : ℕ) (w : List ℕ) where
   end-is x (u ∷ ks) C h = let L = C .0 in let z : ⊥ = omega arith in absurd z
 
   module _ (a e : ℕ) (K : KeyAt sw s a e w) where
-    pub walk-hit : (x b f : ℕ) → Walk sw s tab from x m w → x < m → b ≡ getD tab (12 * x + 4) 0 → f ≡ getD tab (12 * x + 5) 0 → (v : List ℕ) → KeyAt sw s b f v
+    pub walk-hit : (x b f : ℕ) → Walk sw s tab from x m w → x < m → b ≡ getD tab (nodeWords * x + 4) 0 → f ≡ getD tab (nodeWords * x + 5) 0 → (v : List ℕ) → KeyAt sw s b f v
         → sameBytes v w ≡ true → FoundKey sw s tab from m a e true
     walk-hit x b f A h p q v k r =
         record {
@@ -124,13 +125,13 @@ getD-in (v ∷ vs) l j (suc k) h g = ap (λ (i : ℕ). getD (sets (set l j v) (s
 
 -- the words of a row that the walk reads
 pub record RowSays (tab : List ℕ) (x next a b : ℕ) : Type 0 where
-  pub next-is : getD tab (12 * x + 8) 0 ≡ next
-  pub start-is : getD tab (12 * x + 4) 0 ≡ a
-  pub end-is : getD tab (12 * x + 5) 0 ≡ b
+  pub next-is : getD tab (nodeWords * x + 8) 0 ≡ next
+  pub start-is : getD tab (nodeWords * x + 4) 0 ≡ a
+  pub end-is : getD tab (nodeWords * x + 5) 0 ≡ b
 
 -- one more child: the walk over the rows goes on, and its contents have one more
-module _ (sw : Switches) (s tab out : List ℕ) (m next a b : ℕ) (w : List ℕ) (kept : (i : ℕ) → i < 12 * m → getD out i 0 ≡ getD tab i 0) (long : length out ≡ length tab)
-    (R : RowSays out m next a b) (h : 12 * m + 12 ≤ length tab) (up : m < next) (G : KeyAt sw s a b w) where
+module _ (sw : Switches) (s tab out : List ℕ) (m next a b : ℕ) (w : List ℕ) (kept : (i : ℕ) → i < nodeWords * m → getD out i 0 ≡ getD tab i 0) (long : length out ≡ length tab)
+    (R : RowSays out m next a b) (h : nodeWords * m + nodeWords ≤ length tab) (up : m < next) (G : KeyAt sw s a b w) where
   pub chain-more : (x : ℕ) (ks : List (List ℕ)) → Chain sw s tab x m ks → Chain sw s out x next (ks ++ (w ∷ []))
   chain-more x [] e = rw e (last, R .next-is)
     where
@@ -149,14 +150,14 @@ module _ (sw : Switches) (s tab out : List ℕ) (m next a b : ℕ) (w : List ℕ
       below = rw same8 (omega arith);
       key = rw (same4, same5) (C .0 .key);
     },
-    subst (λ (y : ℕ). Chain sw s out y next (ks ++ (w ∷ []))) (sym same8) (chain-more (getD tab (12 * x + 8) 0) ks (C .1)),
+    subst (λ (y : ℕ). Chain sw s out y next (ks ++ (w ∷ []))) (sym same8) (chain-more (getD tab (nodeWords * x + 8) 0) ks (C .1)),
   )
     where
-      same8 : getD out (12 * x + 8) 0 ≡ getD tab (12 * x + 8) 0
-      same8 = let L = C .0 in kept (12 * x + 8) (omega arith)
+      same8 : getD out (nodeWords * x + 8) 0 ≡ getD tab (nodeWords * x + 8) 0
+      same8 = let L = C .0 in kept (nodeWords * x + 8) (omega arith)
 
-      same4 : getD out (12 * x + 4) 0 ≡ getD tab (12 * x + 4) 0
-      same4 = let L = C .0 in kept (12 * x + 4) (omega arith)
+      same4 : getD out (nodeWords * x + 4) 0 ≡ getD tab (nodeWords * x + 4) 0
+      same4 = let L = C .0 in kept (nodeWords * x + 4) (omega arith)
 
-      same5 : getD out (12 * x + 5) 0 ≡ getD tab (12 * x + 5) 0
-      same5 = let L = C .0 in kept (12 * x + 5) (omega arith)
+      same5 : getD out (nodeWords * x + 5) 0 ≡ getD tab (nodeWords * x + 5) 0
+      same5 = let L = C .0 in kept (nodeWords * x + 5) (omega arith)

@@ -18,7 +18,7 @@ use Rattle.lexer.specs.declared.item.TokenKind.{TokenKind}
 use Rattle.lexer.specs.declared.item.Next.{Next}
 use Rattle.lexer.specs.declared.item.Next.the-variants as N
 use Rattle.lexer.specs.Token.{tokens, tokensFrom}
-use Rattle.lexer.specs.Answer.{firstOf}
+use Rattle.lexer.specs.Answer.{firstOf, refusedNext}
 use Rattle.reader.specs.declared.tree.Limits.{Limits}
 use Rattle.reader.specs.declared.tree.Rules.{Rules}
 use Rattle.text.specs.declared.refusal.Refusal.{Refusal}
@@ -26,9 +26,9 @@ use Rattle.reader.specs.declared.items.Ahead.the-variants as H
 use Rattle.reader.specs.declared.read.Whole.{Whole}
 use Rattle.reader.specs.declared.read.Whole.the-variants as W
 use Rattle.reader.specs.declared.read.Reading.the-variants as R
-use Rattle.reader.specs.Tree.{rows, noParent, padded}
+use Rattle.reader.specs.Tree.{rows, noParent, padded, nodeWords}
 use Rattle.reader.specs.Syntax.{label, value, done, config, ended, finished, modeStep, step, Outcome, refused, atEnd, run, before}
-use Rattle.reader.specs.Reading.{nodeLimit, limitsOf, limitsAlone, outcome, reading, tableOf, answerOf, spans, oneValue}
+use Rattle.reader.specs.Reading.{maxText, maxNodes, nodeLimit, limitsOf, limitsAlone, outcome, reading, tableOf, answerOf, spans, oneValue}
 use Rattle.reader.specs.Internal.Ahead.{aheadAt}
 use Rattle.reader.specs.Internal.Values.{spanAt, runFrom, openedHere, Roomy, Took, Stops}
 use Rattle.reader.specs.Internal.Whole.{aloneOf, aloneAt, TreeRead, TreeIs, WholeAt, JudgedAt}
@@ -54,11 +54,11 @@ module _ (sw : Switches) (limits : Limits) (any : Bool) (s : List ℕ) where
   whole-none f e = from-start ∙ ahead-refuses sw s 0 f e limits (config [] (value any none) 0) (λ place. refl)
 
   module _ (k : TokenKind) (start stop : ℕ) (p : Peeked sw s 0 k start stop) where
-    pub whole-stops : (number place : ℕ) → Stops (openedHere sw limits s start stop any (spanAt 0 0) 0) 0 number place → run sw limits (tokens sw s) (before any) ≡ refused number place
+    pub whole-stops : (tin tout : List ℕ) (number place : ℕ) → Stops (openedHere sw limits s start stop any (spanAt 0 0) 0) 0 0 tin tout number place → run sw limits (tokens sw s) (before any) ≡ refused number place
     unfolding spanAt
-    whole-stops number place T = from-start ∙ value-opens sw limits s 0 k start stop p any none [] 0 ∙ T .ran [] refl
+    whole-stops tin tout number place T = from-start ∙ value-opens sw limits s 0 k start stop p any none [] 0 ∙ T .ran [] refl
 
-    module _ (tin tout : List ℕ) (j m : ℕ) (T : Took sw limits s (openedHere sw limits s start stop any (spanAt 0 0) 0) (label start (spanAt 0 0) none) start 0 4294967295 0 tin tout j m) where
+    module _ (tin tout : List ℕ) (j m : ℕ) (T : Took sw limits s (openedHere sw limits s start stop any (spanAt 0 0) 0) (label start (spanAt 0 0) none) start 0 noParent 0 tin tout j m) where
       to-done : run sw limits (tokens sw s) (before any) ≡ runFrom sw limits s j (config [] (done (T .tree)) m)
       unfolding spanAt ended finished
       to-done = from-start ∙ value-opens sw limits s 0 k start stop p any none [] 0 ∙ T .ran [] refl
@@ -80,15 +80,15 @@ module _ (sw : Switches) (limits : Limits) (any : Bool) (s : List ℕ) where
       unfolding step modeStep
       whole-more kind a b q = to-done ∙ peek-refuse sw limits s j (config [] (done (T .tree)) m) kind a b 7 q refl
 
-      whole-bad : (number place : ℕ) → firstOf (tokensFrom sw s j) ≡ N.Fault number place → run sw limits (tokens sw s) (before any) ≡ refused number place
+      whole-bad : (number place : ℕ) → firstOf (tokensFrom sw s j) ≡ refusedNext number place → run sw limits (tokens sw s) (before any) ≡ refused number place
       whole-bad number place e = to-done ∙ fault-run sw limits s j (config [] (done (T .tree)) m) number place e
 
       -- what `only_value` has answered
       whole-by : (x : Next) → firstOf (tokensFrom sw s j) ≡ x → TreeIs limits (run sw limits (tokens sw s) (before any)) tin tout (aloneOf start j m x)
       unfolding aloneOf
-      whole-by (N.Token kind a b) e = whole-more kind a b (peeked sw s j kind a b (T .inside) e)
+      whole-by (N.Token t) e = whole-more (t .kind) (t .span .start) (t .span .stop) (peeked sw s j (t .kind) (t .span .start) (t .span .stop) (T .inside) e)
       whole-by (N.End place) e = whole-taken place e
-      whole-by (N.Fault number place) e = whole-bad number place e
+      whole-by (N.Refused f) e = whole-bad (f .number) (f .place) e
 
       pub whole-is : (r : Whole) → r ≡ aloneAt sw s start j m → TreeIs limits (run sw limits (tokens sw s) (before any)) tin tout r
       whole-is r e = subst (TreeIs limits (run sw limits (tokens sw s) (before any)) tin tout) (sym e) (whole-by (firstOf (tokensFrom sw s j)) refl)
@@ -96,9 +96,9 @@ module _ (sw : Switches) (limits : Limits) (any : Bool) (s : List ℕ) where
 -- ---- length, then UTF-8, then the rest
 
 module _ (sw : Switches) (limits : Limits) (any : Bool) (s : List ℕ) where
-  pub too-long : 65536 < length s → outcome sw any limits s ≡ refused 1 65536
+  pub too-long : maxText < length s → outcome sw any limits s ≡ refused 1 maxText
   unfolding outcome
-  too-long h = rw (lt-leb (length s) 65536 h)
+  too-long h = rw (lt-leb (length s) maxText h)
 
   utf8-is : (t : Bool) → isWhole (utf8 s) ≡ t → wholeFront (utf8 s) < length s → t ≡ false
   utf8-is true e h = let w = utf8-whole s e in absurd (omega arith)
@@ -108,24 +108,24 @@ module _ (sw : Switches) (limits : Limits) (any : Bool) (s : List ℕ) where
   whole-not true e h = refl
   whole-not false e h = let w = utf8-less s e in absurd (omega arith)
 
-  pub not-utf8 : (front : ℕ) → length s ≤ 65536 → front ≡ wholeFront (utf8 s) → front < length s → outcome sw any limits s ≡ refused 2 front
+  pub not-utf8 : (front : ℕ) → length s ≤ maxText → front ≡ wholeFront (utf8 s) → front < length s → outcome sw any limits s ≡ refused 2 front
   unfolding outcome
   not-utf8 front h e l =
       let g : wholeFront (utf8 s) < length s = omega arith in
-      rw (le-leb (length s) 65536 h, utf8-is (isWhole (utf8 s)) refl g) (ap (refused 2) (sym e))
+      rw (le-leb (length s) maxText h, utf8-is (isWhole (utf8 s)) refl g) (ap (refused 2) (sym e))
 
-  is-run : (front : ℕ) → length s ≤ 65536 → front ≡ wholeFront (utf8 s) → length s ≤ front → outcome sw any limits s ≡ run sw limits (tokens sw s) (before any)
+  is-run : (front : ℕ) → length s ≤ maxText → front ≡ wholeFront (utf8 s) → length s ≤ front → outcome sw any limits s ≡ run sw limits (tokens sw s) (before any)
   unfolding outcome
   is-run front h e l =
       let g : length s ≤ wholeFront (utf8 s) = omega arith in
-      rw (le-leb (length s) 65536 h, whole-not (isWhole (utf8 s)) refl g)
+      rw (le-leb (length s) maxText h, whole-not (isWhole (utf8 s)) refl g)
 
   judged-is : (tin tout : List ℕ) (r : Whole) (o q : Outcome) → q ≡ o → TreeIs limits o tin tout r → TreeIs limits q tin tout r
   judged-is tin tout (W.Done start stop nodes) o q e T =
       record { tree = T .tree; is = e ∙ T .is; begun = T .begun; stopped = T .stopped; grew = T .grew; below = T .below; wrote = T .wrote }
   judged-is tin tout (W.Refused f) o q e T = e ∙ T
 
-pub judged : (rules : Rules) (any : Bool) (s tin tout : List ℕ) (r : Whole) (front : ℕ) → length s ≤ 65536 → front ≡ wholeFront (utf8 s) → length s ≤ front → WholeAt rules any s tin tout r
+pub judged : (rules : Rules) (any : Bool) (s tin tout : List ℕ) (r : Whole) (front : ℕ) → length s ≤ maxText → front ≡ wholeFront (utf8 s) → length s ≤ front → WholeAt rules any s tin tout r
     → JudgedAt rules any s tin tout r
 judged rules any s tin tout r front h e l T =
     record {
@@ -154,15 +154,15 @@ rows-on-zeros words vs h =
     ∙ ap (λ (k : ℕ). vs ++ drop k (replicate words 0)) (zero-add (length vs))
     ∙ ap (λ (l : List ℕ). vs ++ l) (drop-replicate (length vs) words)
 
-limit-room : (words : ℕ) → 12 * nodeLimit words ≤ words
+limit-room : (words : ℕ) → nodeWords * nodeLimit words ≤ words
 unfolding nodeLimit
 limit-room words = omega arith
 
-pub limit-low : (words q : ℕ) → q ≡ words / 12 → q < 4096 → q ≡ nodeLimit words
+pub limit-low : (words q : ℕ) → q ≡ words / nodeWords → q < maxNodes → q ≡ nodeLimit words
 unfolding nodeLimit
 limit-low words q e h = omega arith
 
-pub limit-high : (words q : ℕ) → q ≡ words / 12 → 4096 ≤ q → 4096 ≡ nodeLimit words
+pub limit-high : (words q : ℕ) → q ≡ words / nodeWords → maxNodes ≤ q → maxNodes ≡ nodeLimit words
 unfolding nodeLimit
 limit-high words q e h = omega arith
 

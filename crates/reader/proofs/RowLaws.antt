@@ -13,10 +13,10 @@ use borrow.Author.Tests.{ne-eqb}
 use Rattle.reader.specs.declared.tree.Kind.{Kind}
 use Rattle.reader.specs.declared.tree.Words.{Words}
 use Rattle.reader.specs.declared.tree.Label as CL
-use Rattle.reader.specs.Tree.{Span, Scalar, text, bytes, integer, decimal, falseValue, trueValue, nullValue, Tree, leaf, branch, Forest, snoc, count, size, sizes, headOf, spanWords, headWords, kindNumber, scalarNumber, scalarWords, rows, rowsAll}
+use Rattle.reader.specs.Tree.{Span, Scalar, text, bytes, integer, decimal, falseValue, trueValue, nullValue, Tree, leaf, branch, Forest, snoc, count, size, sizes, headOf, spanWords, headWords, kindNumber, scalarNumber, scalarWords, rows, rowsAll, nodeWords}
 use Rattle.reader.specs.Syntax.{headBy, stopAt, withStop}
 use Rattle.reader.specs.Internal.Tokens.{leafOf}
-use Rattle.reader.specs.Internal.Values.{spanAt, labelOf, Sane, rowWords}
+use Rattle.reader.specs.Internal.Values.{spanAt, labelOf, SpansApart, rowWords}
 use Rattle.reader.proofs.TableLaws.{length-rows, length-rowsAll}
 use Rattle.reader.proofs.SizeLaws.{rowsAll-snoc}
 use Rattle.reader.proofs.KeyWalk.{getD-in, RowSays}
@@ -54,7 +54,7 @@ three falseValue = refl
 three trueValue = refl
 three nullValue = refl
 
-module _ (p : CL.Label) (ok : Sane p) where
+module _ (p : CL.Label) (ok : SpansApart p) where
   -- words 0 to 8
   head-words : (kind parent stop next : ℕ)
       → headWords kind parent (headBy (labelOf p) stop) next ≡ kind ∷ parent ∷ p .start ∷ stop ∷ p .key .start ∷ p .key .stop ∷ p .name .start ∷ p .name .stop ∷ next ∷ []
@@ -63,10 +63,10 @@ module _ (p : CL.Label) (ok : Sane p) where
       λ i. kind ∷ parent ∷ p .start ∷ stop ∷ (span-words (p .key .start) (p .key .stop) (ok .keys) i ++ (span-words (p .name .start) (p .name .stop) (ok .names) i ++ (next ∷ [])))
 
   pub leaf-row : (parent n stop : ℕ) (v : Scalar) (l : Words) → l ≡ leafOf v
-      → rowWords (l .kind) parent p stop (n + 1) (l .a) (l .b) (l .c) ≡ rows parent n (leaf (headBy (labelOf p) stop) v)
+      → rowWords (l .kind) parent p stop (n + 1) (l .low) (l .high) (l .extra) ≡ rows parent n (leaf (headBy (labelOf p) stop) v)
   unfolding rows leafOf
   leaf-row parent n stop v l e =
-      ap (λ (x : Words). rowWords (x .kind) parent p stop (n + 1) (x .a) (x .b) (x .c)) e
+      ap (λ (x : Words). rowWords (x .kind) parent p stop (n + 1) (x .low) (x .high) (x .extra)) e
       ∙ ap (λ (k : ℕ). rowWords (scalarNumber v) parent p stop k (getD (scalarWords v) 0 0) (getD (scalarWords v) 1 0) (getD (scalarWords v) 2 0)) (add-one n)
       ∙ sym (λ i. head-words (scalarNumber v) parent stop (suc n) i ++ three v i)
 
@@ -82,28 +82,28 @@ module _ (p : CL.Label) (ok : Sane p) where
 -- ---- the container's loop
 
 -- one child more
-pub glue : (tin tab out : List ℕ) (n m : ℕ) (ts : Forest) (t : Tree) → m ≡ n + 1 + sizes ts → tab ≡ sets tin (12 * (n + 1)) (rowsAll n (n + 1) ts)
-    → out ≡ sets tab (12 * m) (rows n m t) → out ≡ sets tin (12 * (n + 1)) (rowsAll n (n + 1) (snoc ts t))
-glue tin tab out n m ts t g w v =
-    let k : 12 * m ≡ 12 * (n + 1) + length (rowsAll n (n + 1) ts) = omega (arith, length-rowsAll n (n + 1) ts) in
+pub rows-child : (tin tab out : List ℕ) (n m : ℕ) (ts : Forest) (t : Tree) → m ≡ n + 1 + sizes ts → tab ≡ sets tin (nodeWords * (n + 1)) (rowsAll n (n + 1) ts)
+    → out ≡ sets tab (nodeWords * m) (rows n m t) → out ≡ sets tin (nodeWords * (n + 1)) (rowsAll n (n + 1) (snoc ts t))
+rows-child tin tab out n m ts t g w v =
+    let k : nodeWords * m ≡ nodeWords * (n + 1) + length (rowsAll n (n + 1) ts) = omega (arith, length-rowsAll n (n + 1) ts) in
     v
-    ∙ ap (λ (l : List ℕ). sets l (12 * m) (rows n m t)) w
-    ∙ (λ i. sets (sets tin (12 * (n + 1)) (rowsAll n (n + 1) ts)) (k i) (rows n (g i) t))
-    ∙ sym (sets-append tin (12 * (n + 1)) (rowsAll n (n + 1) ts) (rows n (n + 1 + sizes ts) t))
-    ∙ ap (sets tin (12 * (n + 1))) (sym (rowsAll-snoc n (n + 1) ts t))
+    ∙ ap (λ (l : List ℕ). sets l (nodeWords * m) (rows n m t)) w
+    ∙ (λ i. sets (sets tin (nodeWords * (n + 1)) (rowsAll n (n + 1) ts)) (k i) (rows n (g i) t))
+    ∙ sym (sets-append tin (nodeWords * (n + 1)) (rowsAll n (n + 1) ts) (rows n (n + 1 + sizes ts) t))
+    ∙ ap (sets tin (nodeWords * (n + 1))) (sym (rowsAll-snoc n (n + 1) ts t))
 
 -- the row of a container, written after those of its children
-pub crown : (tin tab out : List ℕ) (p : CL.Label) → Sane p → (kind : Kind) (parent n m z stop : ℕ) (ts : Forest) → m ≡ n + 1 + sizes ts → z ≡ count ts
-    → tab ≡ sets tin (12 * (n + 1)) (rowsAll n (n + 1) ts) → out ≡ sets tab (12 * n) (rowWords (kindNumber kind) parent p stop m z 0 0)
-    → out ≡ sets tin (12 * n) (rows parent n (branch (headBy (labelOf p) stop) kind ts))
-crown tin tab out p ok kind parent n m z stop ts g c w v =
-    let k : 12 * (n + 1) ≡ 12 * n + 12 = omega arith in
+pub rows-branch : (tin tab out : List ℕ) (p : CL.Label) → SpansApart p → (kind : Kind) (parent n m z stop : ℕ) (ts : Forest) → m ≡ n + 1 + sizes ts → z ≡ count ts
+    → tab ≡ sets tin (nodeWords * (n + 1)) (rowsAll n (n + 1) ts) → out ≡ sets tab (nodeWords * n) (rowWords (kindNumber kind) parent p stop m z 0 0)
+    → out ≡ sets tin (nodeWords * n) (rows parent n (branch (headBy (labelOf p) stop) kind ts))
+rows-branch tin tab out p ok kind parent n m z stop ts g c w v =
+    let k : nodeWords * (n + 1) ≡ nodeWords * n + nodeWords = omega arith in
     v
-    ∙ ap (λ (l : List ℕ). sets l (12 * n) (rowWords (kindNumber kind) parent p stop m z 0 0)) w
-    ∙ sets-swap (rowWords (kindNumber kind) parent p stop m z 0 0) tin (12 * n) (12 * (n + 1)) (rowsAll n (n + 1) ts) (omega arith)
-    ∙ ap (λ (x : ℕ). sets (sets tin (12 * n) (rowWords (kindNumber kind) parent p stop m z 0 0)) x (rowsAll n (n + 1) ts)) k
-    ∙ sym (sets-append tin (12 * n) (rowWords (kindNumber kind) parent p stop m z 0 0) (rowsAll n (n + 1) ts))
-    ∙ ap (sets tin (12 * n)) (branch-row p ok parent n stop m z kind ts g c)
+    ∙ ap (λ (l : List ℕ). sets l (nodeWords * n) (rowWords (kindNumber kind) parent p stop m z 0 0)) w
+    ∙ sets-swap (rowWords (kindNumber kind) parent p stop m z 0 0) tin (nodeWords * n) (nodeWords * (n + 1)) (rowsAll n (n + 1) ts) (omega arith)
+    ∙ ap (λ (x : ℕ). sets (sets tin (nodeWords * n) (rowWords (kindNumber kind) parent p stop m z 0 0)) x (rowsAll n (n + 1) ts)) k
+    ∙ sym (sets-append tin (nodeWords * n) (rowWords (kindNumber kind) parent p stop m z 0 0) (rowsAll n (n + 1) ts))
+    ∙ ap (sets tin (nodeWords * n)) (branch-row p ok parent n stop m z kind ts g c)
 
 -- ---- the end of an identifier's bracket: word 3
 
@@ -119,15 +119,15 @@ set-third l i a b c d x vs =
     set-set (h ∷ y) zero u v = refl
     set-set (h ∷ y) (suc j) u v = ap (λ (r : List ℕ). h ∷ r) (set-set y j u v)
 
-pub stop-row : (tin tab out : List ℕ) (parent n stop : ℕ) (t : Tree) → tab ≡ sets tin (12 * n) (rows parent n t) → out ≡ set tab (12 * n + 3) stop
-    → out ≡ sets tin (12 * n) (rows parent n (withStop stop t))
+pub stop-row : (tin tab out : List ℕ) (parent n stop : ℕ) (t : Tree) → tab ≡ sets tin (nodeWords * n) (rows parent n t) → out ≡ set tab (nodeWords * n + 3) stop
+    → out ≡ sets tin (nodeWords * n) (rows parent n (withStop stop t))
 unfolding rows withStop stopAt headWords
 stop-row tin tab out parent n stop (leaf h s) w v =
-    v ∙ ap (λ (l : List ℕ). set l (12 * n + 3) stop) w
-    ∙ set-third tin (12 * n) (scalarNumber s) parent (h .value .start) (h .value .stop) stop (spanWords (h .key) ++ (spanWords (h .name) ++ (suc n ∷ [])) ++ scalarWords s)
+    v ∙ ap (λ (l : List ℕ). set l (nodeWords * n + 3) stop) w
+    ∙ set-third tin (nodeWords * n) (scalarNumber s) parent (h .value .start) (h .value .stop) stop (spanWords (h .key) ++ (spanWords (h .name) ++ (suc n ∷ [])) ++ scalarWords s)
 stop-row tin tab out parent n stop (branch h k f) w v =
-    v ∙ ap (λ (l : List ℕ). set l (12 * n + 3) stop) w
-    ∙ set-third tin (12 * n) (kindNumber k) parent (h .value .start) (h .value .stop) stop
+    v ∙ ap (λ (l : List ℕ). set l (nodeWords * n + 3) stop) w
+    ∙ set-third tin (nodeWords * n) (kindNumber k) parent (h .value .start) (h .value .stop) stop
     (spanWords (h .key) ++ (spanWords (h .name) ++ ((suc n + sizes f) ∷ [])) ++ (count f ∷ 0 ∷ 0 ∷ rowsAll n (suc n) f))
 
 -- ---- what the row of a tree says of its key and of the node after it
@@ -184,8 +184,8 @@ row-next parent n (branch h k f) =
     (λ i. getD (two (h .key) i ++ (two (h .name) i ++ ((suc n + sizes f) ∷ [])) ++ (count f ∷ 0 ∷ 0 ∷ rowsAll n (suc n) f)) 4 0) ∙ e
 
 -- the row of a tree that was written as node m
-pub row-says : (tab out : List ℕ) (parent m a b : ℕ) (t : Tree) → headOf t .key ≡ spanAt a b → (b ≡ 0 → a ≡ 0) → 12 * m + 12 * size t ≤ length tab
-    → out ≡ sets tab (12 * m) (rows parent m t) → RowSays out m (m + size t) a b
+pub row-says : (tab out : List ℕ) (parent m a b : ℕ) (t : Tree) → headOf t .key ≡ spanAt a b → (b ≡ 0 → a ≡ 0) → nodeWords * m + nodeWords * size t ≤ length tab
+    → out ≡ sets tab (nodeWords * m) (rows parent m t) → RowSays out m (m + size t) a b
 row-says tab out parent m a b t e ok h w =
     record {
       next-is = word 8 (omega (arith, size-pos t)) ∙ row-next parent m t;
@@ -193,7 +193,7 @@ row-says tab out parent m a b t e ok h w =
       end-is = word 5 (omega (arith, size-pos t)) ∙ row-says-words parent m a b t e ok .1;
     }
   where
-    word : (k : ℕ) → k < 12 * size t → getD out (12 * m + k) 0 ≡ getD (rows parent m t) k 0
+    word : (k : ℕ) → k < nodeWords * size t → getD out (nodeWords * m + k) 0 ≡ getD (rows parent m t) k 0
     word k l =
-        ap (λ (x : List ℕ). getD x (12 * m + k) 0) w
-        ∙ getD-in (rows parent m t) tab (12 * m) k (omega (arith, length-rows parent m t)) (omega (arith, length-rows parent m t))
+        ap (λ (x : List ℕ). getD x (nodeWords * m + k) 0) w
+        ∙ getD-in (rows parent m t) tab (nodeWords * m) k (omega (arith, length-rows parent m t)) (omega (arith, length-rows parent m t))

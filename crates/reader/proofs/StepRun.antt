@@ -16,13 +16,14 @@ use Rattle.lexer.specs.declared.item.Next.{Next}
 use Rattle.lexer.specs.declared.item.Next.the-variants as N
 use Rattle.lexer.specs.Token as L
 use Rattle.lexer.specs.Token.{Form, Token, Tokens, tokensFrom}
-use Rattle.lexer.specs.Answer.{kindOf, firstOf}
+use Rattle.lexer.specs.Answer.{kindOf, tokenNext, refusedNext, firstOf}
 use Rattle.lexer.proofs.NextLaws.{next-ahead, next-end, next-fault}
 use Rattle.reader.specs.declared.tree.Kind.{Kind}
 use Rattle.reader.specs.declared.tree.Kind.the-variants.{Object, Array, Tuple}
 use Rattle.reader.specs.declared.tree.Limits.{Limits}
 use Rattle.text.specs.declared.refusal.Refusal.{Refusal}
-use Rattle.reader.specs.declared.tree.Token as CT
+use Rattle.text.specs.Refusal.{refusal}
+use Rattle.lexer.specs.declared.item.Token as CT
 use Rattle.reader.specs.declared.items.Ahead.{Ahead}
 use Rattle.reader.specs.declared.items.Ahead.the-variants as H
 use Rattle.reader.specs.declared.items.Only.{Only}
@@ -63,7 +64,7 @@ pub record NotMarked (sw : Switches) (s : List ℕ) (from want number place : �
   pub ran : (limits : Limits) (c : Config) → Wants sw limits want c → runFrom sw limits s from c ≡ refused number place
 
 module _ (sw : Switches) (s : List ℕ) (from : ℕ) where
-  pub peeked : (k : TokenKind) (start stop : ℕ) → from ≤ length s → firstOf (tokensFrom sw s from) ≡ N.Token k start stop → Peeked sw s from k start stop
+  pub peeked : (k : TokenKind) (start stop : ℕ) → from ≤ length s → firstOf (tokensFrom sw s from) ≡ tokenNext k start stop → Peeked sw s from k start stop
   unfolding formAt formOf
   peeked k start stop h e =
       let a = next-ahead sw s from k start stop h e in
@@ -108,7 +109,7 @@ module _ (sw : Switches) (limits : Limits) (s : List ℕ) (from : ℕ) (c : Conf
   unfolding runFrom run
   end-run place e = ap (λ (ts : Tokens). run sw limits ts c) (next-end sw s from place e)
 
-  pub fault-run : (number place : ℕ) → firstOf (tokensFrom sw s from) ≡ N.Fault number place → runFrom sw limits s from c ≡ refused number place
+  pub fault-run : (number place : ℕ) → firstOf (tokensFrom sw s from) ≡ refusedNext number place → runFrom sw limits s from c ≡ refused number place
   unfolding runFrom run
   fault-run number place e = ap (λ (ts : Tokens). run sw limits ts c) (next-fault sw s from number place e)
 
@@ -177,18 +178,16 @@ module _ (sw : Switches) (s : List ℕ) (from want : ℕ) where
 
 -- ---- what the functions that look ahead have answered
 
-token-is : (x : Next) (t : CT.Token) → aheadOf x ≡ H.Token t → x ≡ N.Token (t .kind) (t .start) (t .stop)
+token-is : (x : Next) (t : CT.Token) → aheadOf x ≡ H.Token t → x ≡ N.Token t
 unfolding aheadOf
-token-is (N.Token k a b) t e =
-    let h : _≡_ {A = CT.Token} (record { kind = k; start = a; stop = b }) t = cc in
-    λ i. N.Token (h i .kind) (h i .start) (h i .stop)
+token-is (N.Token u) t e = let h : u ≡ t = cc in ap N.Token h
 token-is (N.End place) t e = cc
-token-is (N.Fault number place) t e = cc
+token-is (N.Refused f) t e = cc
 
 module _ (sw : Switches) (s : List ℕ) (from : ℕ) where
   -- a token
-  pub ahead-token : (t : CT.Token) → from ≤ length s → aheadAt sw s from ≡ H.Token t → Peeked sw s from (t .kind) (t .start) (t .stop)
-  ahead-token t h e = peeked sw s from (t .kind) (t .start) (t .stop) h (token-is (firstOf (tokensFrom sw s from)) t e)
+  pub ahead-token : (t : CT.Token) → from ≤ length s → aheadAt sw s from ≡ H.Token t → Peeked sw s from (t .kind) (t .span .start) (t .span .stop)
+  ahead-token t h e = peeked sw s from (t .kind) (t .span .start) (t .span .stop) h (token-is (firstOf (tokensFrom sw s from)) t e)
 
   -- a fault or the text's end: every state in which the text may not end comes to this refusal
   pub ahead-refuses : (f : Refusal) → aheadAt sw s from ≡ H.Refused f → (limits : Limits) (c : Config) → Unended c
@@ -197,13 +196,13 @@ module _ (sw : Switches) (s : List ℕ) (from : ℕ) where
   ahead-refuses f e limits c ends = on (firstOf (tokensFrom sw s from)) refl e
     where
       on : (x : Next) → firstOf (tokensFrom sw s from) ≡ x → aheadOf x ≡ H.Refused f → runFrom sw limits s from c ≡ refused (f .number) (f .place)
-      on (N.Token k a b) q r = let z : _≡_ {A = ℕ} 0 1 = cc in absurd (omega arith)
+      on (N.Token u) q r = let z : _≡_ {A = ℕ} 0 1 = cc in absurd (omega arith)
       on (N.End place) q r =
-          let h : _≡_ {A = Refusal} (record { number = 7; place = place }) f = cc in
+          let h : refusal 7 place ≡ f = cc in
           end-run sw limits s from c place q ∙ ends place ∙ (λ i. refused (h i .number) (h i .place))
-      on (N.Fault number place) q r =
-          let h : _≡_ {A = Refusal} (record { number = number; place = place }) f = cc in
-          fault-run sw limits s from c number place q ∙ (λ i. refused (h i .number) (h i .place))
+      on (N.Refused g) q r =
+          let h : g ≡ f = cc in
+          fault-run sw limits s from c (g .number) (g .place) q ∙ (λ i. refused (h i .number) (h i .place))
 
 module _ (sw : Switches) (s : List ℕ) (from want : ℕ) (h : from ≤ length s) where
   -- the mark that has to come next
@@ -212,29 +211,29 @@ module _ (sw : Switches) (s : List ℕ) (from want : ℕ) (h : from ≤ length s
   only-at stop e = on (aheadAt sw s from) refl e
     where
       by : (t : CT.Token) → aheadAt sw s from ≡ H.Token t → (b : Bool) → markIs (t .kind) want ≡ b
-          → cond b (O.At (t .stop)) (O.Not (record { number = 7; place = t .start })) ≡ O.At stop → Marked sw s from want stop
+          → cond b (O.At (t .span .stop)) (O.Refused (refusal 7 (t .span .start))) ≡ O.At stop → Marked sw s from want stop
       by t q true m r =
-          let x : t .stop ≡ stop = cc in
-          subst (Marked sw s from want) x (marked sw s from want (t .kind) (t .start) (t .stop) (ahead-token sw s from t h q) m)
+          let x : t .span .stop ≡ stop = cc in
+          subst (Marked sw s from want) x (marked sw s from want (t .kind) (t .span .start) (t .span .stop) (ahead-token sw s from t h q) m)
       by t q false m r = let z : _≡_ {A = ℕ} 0 1 = cc in absurd (omega arith)
 
       on : (a : Ahead) → aheadAt sw s from ≡ a → onlyOf want a ≡ O.At stop → Marked sw s from want stop
       on (H.Token t) q r = by t q (markIs (t .kind) want) refl r
       on (H.Refused f) q r = let z : _≡_ {A = ℕ} 0 1 = cc in absurd (omega arith)
 
-  pub only-not : (f : Refusal) → onlyAt sw s from want ≡ O.Not f → NotMarked sw s from want (f .number) (f .place)
+  pub only-not : (f : Refusal) → onlyAt sw s from want ≡ O.Refused f → NotMarked sw s from want (f .number) (f .place)
   unfolding onlyOf
   only-not f e = on (aheadAt sw s from) refl e
     where
       by : (t : CT.Token) → aheadAt sw s from ≡ H.Token t → (b : Bool) → markIs (t .kind) want ≡ b
-          → cond b (O.At (t .stop)) (O.Not (record { number = 7; place = t .start })) ≡ O.Not f → NotMarked sw s from want (f .number) (f .place)
+          → cond b (O.At (t .span .stop)) (O.Refused (refusal 7 (t .span .start))) ≡ O.Refused f → NotMarked sw s from want (f .number) (f .place)
       by t q true m r = let z : _≡_ {A = ℕ} 0 1 = cc in absurd (omega arith)
       by t q false m r =
-          let x : _≡_ {A = Refusal} (record { number = 7; place = t .start }) f = cc in
+          let x : refusal 7 (t .span .start) ≡ f = cc in
           subst (λ (g : Refusal). NotMarked sw s from want (g .number) (g .place)) x
-          (not-marked sw s from want (t .kind) (t .start) (t .stop) (ahead-token sw s from t h q) m)
+          (not-marked sw s from want (t .kind) (t .span .start) (t .span .stop) (ahead-token sw s from t h q) m)
 
-      on : (a : Ahead) → aheadAt sw s from ≡ a → onlyOf want a ≡ O.Not f → NotMarked sw s from want (f .number) (f .place)
+      on : (a : Ahead) → aheadAt sw s from ≡ a → onlyOf want a ≡ O.Refused f → NotMarked sw s from want (f .number) (f .place)
       on (H.Token t) q r = by t q (markIs (t .kind) want) refl r
       on (H.Refused g) q r =
           let x : g ≡ f = cc in
@@ -244,7 +243,7 @@ module _ (sw : Switches) (s : List ℕ) (from want : ℕ) (h : from ≤ length s
 pub record Past (sw : Switches) (s : List ℕ) (from want : ℕ) (t : CT.Token) : Type 0 where
   pub place : ℕ
   pub mark : Marked sw s from want place
-  pub token : Peeked sw s place (t .kind) (t .start) (t .stop)
+  pub token : Peeked sw s place (t .kind) (t .span .start) (t .span .stop)
 
 module _ (sw : Switches) (s : List ℕ) (from want : ℕ) (h : from ≤ length s) where
   pub past-token : (t : CT.Token) → aheadAfter sw s from want ≡ H.Token t → Past sw s from want t
@@ -255,7 +254,7 @@ module _ (sw : Switches) (s : List ℕ) (from want : ℕ) (h : from ≤ length s
       on (O.At place) q r =
           let m = only-at sw s from want h place q in
           record { place = place; mark = m; token = ahead-token sw s place t (m .inside) r }
-      on (O.Not f) q r = let z : _≡_ {A = ℕ} 0 1 = cc in absurd (omega arith)
+      on (O.Refused f) q r = let z : _≡_ {A = ℕ} 0 1 = cc in absurd (omega arith)
 
   -- a state in which that mark alone is allowed, and which it leads to one in which the text may not end
   pub past-refuses : (f : Refusal) → aheadAfter sw s from want ≡ H.Refused f → (limits : Limits) (c d : Config) → Wants sw limits want c
@@ -268,9 +267,9 @@ module _ (sw : Switches) (s : List ℕ) (from want : ℕ) (h : from ≤ length s
       on (O.At place) q r =
           let m = only-at sw s from want h place q in
           mark-go sw limits s from c want place d m (goes (m .start) place) ∙ ahead-refuses sw s place f r limits d ends
-      on (O.Not g) q r =
+      on (O.Refused g) q r =
           let x : g ≡ f = cc in
-          only-not sw s from want h f (q ∙ ap O.Not x) .ran limits c w
+          only-not sw s from want h f (q ∙ ap O.Refused x) .ran limits c w
 
 -- ---- slots
 

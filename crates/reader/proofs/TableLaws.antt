@@ -10,7 +10,7 @@ use mathlib.Core.List.{List, [], _∷_, _++_}
 use lib.ListN.{length, getD, replicate, length-append, List·getD-append}
 use lib.Seq.{getD-append-add}
 use Rattle.reader.specs.Tree
-use Rattle.reader.specs.Tree.{Span, Head, Scalar, Tree, leaf, branch, Forest, nil, cons, snoc, size, sizes, count, spanWords, headWords, kindNumber, scalarNumber, scalarWords, rows, rowsAll, padded, noParent}
+use Rattle.reader.specs.Tree.{Span, Head, Scalar, Tree, leaf, branch, Forest, nil, cons, snoc, size, sizes, count, spanWords, headWords, kindNumber, scalarNumber, scalarWords, rows, rowsAll, padded, noParent, nodeWords}
 use Rattle.reader.specs.Syntax.{taken}
 use Rattle.reader.specs.Reading.{tableOf, wordOf}
 
@@ -39,7 +39,7 @@ length-scalar Tree.nullValue = refl
 mutual
   unfolding rows size
 
-  pub length-rows : (parent n : ℕ) (t : Tree) → length (rows parent n t) ≡ 12 * size t
+  pub length-rows : (parent n : ℕ) (t : Tree) → length (rows parent n t) ≡ nodeWords * size t
   length-rows parent n (leaf h s) =
       let a = length-append (headWords (scalarNumber s) parent h (suc n)) (scalarWords s) in
       let b = length-head (scalarNumber s) parent h (suc n) in
@@ -51,7 +51,7 @@ mutual
       let c = length-rowsAll n (suc n) f in
       omega arith
 
-  pub length-rowsAll : (parent n : ℕ) (f : Forest) → length (rowsAll parent n f) ≡ 12 * sizes f
+  pub length-rowsAll : (parent n : ℕ) (f : Forest) → length (rowsAll parent n f) ≡ nodeWords * sizes f
   length-rowsAll parent n nil = refl
   length-rowsAll parent n (cons t f) =
       let a = length-append (rows parent n t) (rowsAll parent (n + size t) f) in
@@ -64,16 +64,16 @@ mutual
 -- past the twelve words of a branch
 word-past : (h : List ℕ) (a b c : ℕ) (l : List ℕ) (j k : ℕ) → length h ≡ 9 → wordOf (h ++ (a ∷ b ∷ c ∷ l)) (suc j) k ≡ wordOf l j k
 word-past h a b c l j k e =
-    let q : 12 * suc j + k ≡ length h + suc (suc (suc (12 * j + k))) = omega arith in
-    ap (λ (m : ℕ). getD (h ++ (a ∷ b ∷ c ∷ l)) m 0) q ∙ getD-append-add h (a ∷ b ∷ c ∷ l) (suc (suc (suc (12 * j + k)))) 0
+    let q : nodeWords * suc j + k ≡ length h + suc (suc (suc (nodeWords * j + k))) = omega arith in
+    ap (λ (m : ℕ). getD (h ++ (a ∷ b ∷ c ∷ l)) m 0) q ∙ getD-append-add h (a ∷ b ∷ c ∷ l) (suc (suc (suc (nodeWords * j + k)))) 0
 
-pub word-left : (l r : List ℕ) (n i k : ℕ) → length l ≡ 12 * n → i < n → k < 12 → wordOf (l ++ r) i k ≡ wordOf l i k
-word-left l r n i k e h q = List·getD-append l r 0 (12 * i + k) (omega arith)
+pub word-left : (l r : List ℕ) (n i k : ℕ) → length l ≡ nodeWords * n → i < n → k < 12 → wordOf (l ++ r) i k ≡ wordOf l i k
+word-left l r n i k e h q = List·getD-append l r 0 (nodeWords * i + k) (omega arith)
 
-pub word-right : (l r : List ℕ) (n j k : ℕ) → length l ≡ 12 * n → wordOf (l ++ r) (n + j) k ≡ wordOf r j k
+pub word-right : (l r : List ℕ) (n j k : ℕ) → length l ≡ nodeWords * n → wordOf (l ++ r) (n + j) k ≡ wordOf r j k
 word-right l r n j k e =
-    let q : 12 * (n + j) + k ≡ length l + (12 * j + k) = omega arith in
-    ap (λ (m : ℕ). getD (l ++ r) m 0) q ∙ getD-append-add l r (12 * j + k) 0
+    let q : nodeWords * (n + j) + k ≡ length l + (nodeWords * j + k) = omega arith in
+    ap (λ (m : ℕ). getD (l ++ r) m 0) q ∙ getD-append-add l r (nodeWords * j + k) 0
 
 -- ---- what holds of every value's span
 

@@ -7,7 +7,7 @@ use mathlib.Core.Bool.{Bool, true, false, not, cond, _&&_, false≢true}
 use Prim.Native.Nat.{ℕ, suc, _+_, _*_, _<_, _≤_}
 use native.Mathlib.Omega.{arith}
 use lib.Dec.{leb}
-use lib.ListN.{length, set}
+use lib.ListN.{length, set, getD}
 use lib.Seq.{sets}
 use borrow.Author.Tests.{le-leb, lt-leb, eq-eqb}
 use Rattle.text.specs.declared.switches.Switches.{Switches}
@@ -16,22 +16,24 @@ use Rattle.lexer.specs.Token as L
 use Rattle.reader.specs.declared.tree.Words.{Words}
 use Rattle.reader.specs.declared.tree.Limits.{Limits}
 use Rattle.text.specs.declared.refusal.Refusal.{Refusal}
+use Rattle.text.specs.Refusal.{refusal}
 use Rattle.reader.specs.declared.tree.Rules.{Rules}
 use Rattle.reader.specs.declared.tree.Due.{Due}
 use Rattle.reader.specs.declared.tree.Label as CL
-use Rattle.reader.specs.declared.tree.Token as CT
+use Rattle.lexer.specs.declared.item.Token as CT
 use Rattle.reader.specs.declared.tree.Begin.{Begin}
 use Rattle.reader.specs.declared.items.Ahead.the-variants as H
 use Rattle.reader.specs.declared.values.Answer.{Answer}
 use Rattle.reader.specs.declared.values.Answer.the-variants as A
-use Rattle.reader.specs.Tree.{Span, leaf, size, headOf}
+use Rattle.reader.specs.Tree.{Span, leaf, size, headOf, rows, nodeWords}
 use Rattle.reader.specs.Syntax.{Label, label, Frame, value, named, inner, close, config, Step, go, refuseIf, Begins, scalar, identifier, nothing, begins, spanOf, isMark, headBy, withStop, ended, finished, noNode, counted, valueStep, modeStep, step, Outcome, atEnd, afterStep}
 use Rattle.reader.specs.Internal.Tokens.{formAt, tokenAt, LeafIs, BeginIs, Begun, beginsAt}
 use Rattle.reader.specs.Internal.Ahead.{aheadAfter}
-use Rattle.reader.specs.Internal.Values.{spanAt, labelOf, Sane, namedDue, rowWords, rowOf, runFrom, nodesAt, opened, Ready, Placed, isFull, leafAnswer, leafTable, Took, Stops, RanIs, openedBy, ReadAs}
+use Rattle.reader.specs.Internal.Values.{spanAt, labelOf, SpansApart, namedLabel, namedDue, rowWords, rowOf, runFrom, nodesAt, opened, Ready, Placed, isFull, leafAnswer, leafTable, Took, Stops, RanIs, openedBy, ReadAs}
 use Rattle.reader.proofs.StopLaws.{stops-size, stops-key, stops-start, stops-stop}
 use Rattle.reader.proofs.StepRun.{Peeked, Marked, Wants, NotMarked, Past, peek-run, mark-go, not-mark, mode-free, past-refuses}
 use Rattle.reader.proofs.ItemRun.{span-some}
+use Rattle.reader.proofs.KeyWalk.{getD-sets}
 use Rattle.reader.proofs.RowLaws.{leaf-row, stop-row}
 use Rattle.reader.proofs.BodyRun.{no-node, count-one, node-left}
 
@@ -52,14 +54,15 @@ module _ (sw : Switches) (limits : Limits) (s : List ℕ) (start stop : ℕ) (fr
   unfolding opened ω
   leaf-run stack = ap (λ (b : Begins). afterStep start (valueStep limits (config stack (value any none) (nodesAt fresh n)) fresh any (labelOf p) (tokenAt sw s start stop) b) (λ c. runFrom sw limits s stop c)) (W .is)
 
-  leaf-not : any ≡ false → Stops (opened sw limits s start stop fresh any (labelOf p) n (begins (spanOf (tokenAt sw s start stop)) (formAt sw s start))) d 7 start
+  leaf-not : any ≡ false → (tab : List ℕ) → Stops (opened sw limits s start stop fresh any (labelOf p) n (begins (spanOf (tokenAt sw s start stop)) (formAt sw s start))) d n tab tab 7 start
   unfolding valueStep refuseIf afterStep ω
-  leaf-not e = record { ran = λ stack h. leaf-run stack ∙ rw e }
+  leaf-not e tab = record { ran = λ stack h. leaf-run stack ∙ rw e; kept = λ x h. refl }
 
-  leaf-full : any ≡ true → (fresh && leb (limits .nodes) n) ≡ true → Stops (opened sw limits s start stop fresh any (labelOf p) n (begins (spanOf (tokenAt sw s start stop)) (formAt sw s start))) d 10 start
+  leaf-full : any ≡ true → (fresh && leb (limits .nodes) n) ≡ true → (tab : List ℕ) → Stops (opened sw limits s start stop fresh any (labelOf p) n (begins (spanOf (tokenAt sw s start stop)) (formAt sw s start))) d n tab tab 10 start
   unfolding valueStep refuseIf afterStep ω
-  leaf-full e f =
+  leaf-full e f tab =
       record {
+        kept = λ x h. refl;
         ran =
             λ stack h.
             leaf-run stack
@@ -67,8 +70,8 @@ module _ (sw : Switches) (limits : Limits) (s : List ℕ) (start stop : ℕ) (fr
             ∙ ap (λ (x : Bool). afterStep start (refuseIf x 10 (go (ended stack (counted limits fresh (config stack (value any none) (nodesAt fresh n))) (labelOf p .name) (leaf (headBy (labelOf p) stop) (W .value))))) (λ c. runFrom sw limits s stop c)) (no-node limits stack (value any none) fresh n ∙ f);
       }
 
-  leaf-took : Sane p → any ≡ true → (fresh && leb (limits .nodes) n) ≡ false → n < limits .nodes → start < stop → stop ≤ length s → (parent : ℕ) (tin out : List ℕ)
-      → out ≡ sets tin (12 * n) (rowWords (v .kind) parent p stop (n + 1) (v .a) (v .b) (v .c))
+  leaf-took : SpansApart p → any ≡ true → (fresh && leb (limits .nodes) n) ≡ false → n < limits .nodes → start < stop → stop ≤ length s → (parent : ℕ) (tin out : List ℕ)
+      → out ≡ sets tin (nodeWords * n) (rowWords (v .kind) parent p stop (n + 1) (v .low) (v .high) (v .extra))
       → Took sw limits s (opened sw limits s start stop fresh any (labelOf p) n (begins (spanOf (tokenAt sw s start stop)) (formAt sw s start))) (labelOf p) start d parent n tin out stop (n + 1)
   unfolding valueStep refuseIf afterStep ω size headOf headBy
   leaf-took ok e f r o i parent tin out w =
@@ -81,7 +84,7 @@ module _ (sw : Switches) (limits : Limits) (s : List ℕ) (start stop : ℕ) (fr
         below = omega arith;
         ahead = o;
         inside = i;
-        wrote = w ∙ ap (sets tin (12 * n)) (leaf-row p ok parent n stop (W .value) v (W .words));
+        wrote = w ∙ ap (sets tin (nodeWords * n)) (leaf-row p ok parent n stop (W .value) v (W .words));
         ran =
             λ stack h.
             leaf-run stack
@@ -92,36 +95,41 @@ module _ (sw : Switches) (limits : Limits) (s : List ℕ) (start stop : ℕ) (fr
 
 -- what `put_leaf` has answered and written
 pub leaf-read : {rules : Rules} {s : List ℕ} {due : Due} {t : CT.Token} {w : Words} {tin tout : List ℕ} {r : Answer} → Ready (rules .limits) tin due → Placed s t
-    → LeafIs (rules .sw) s (t .start) (t .stop) w → r ≡ leafAnswer (rules .limits) due t → tout ≡ leafTable (rules .limits) due t w tin
+    → LeafIs (rules .sw) s (t .span .start) (t .span .stop) w → r ≡ leafAnswer (rules .limits) due t → tout ≡ leafTable (rules .limits) due t w tin
     → ReadAs rules s due t (beginsAt (rules .sw) s t) tin tout r
 unfolding leafAnswer leafTable
 leaf-read {rules} {s} {due} {t} {w} {tin} {tout} {r} R P W e v = by (due .any) (isFull (rules .limits) due) refl refl e v
   where
+    same-table : {number place : ℕ} → tout ≡ tin → Stops (openedBy rules s due t (beginsAt (rules .sw) s t)) (due .spot .depth) (due .spot .node) tin tin number place
+        → Stops (openedBy rules s due t (beginsAt (rules .sw) s t)) (due .spot .depth) (due .spot .node) tin tout number place
+    same-table q S = record { ran = S .ran; kept = λ x h. ap (λ (l : List ℕ). getD l x 0) q }
+
     by : (a f : Bool) → due .any ≡ a → isFull (rules .limits) due ≡ f
-        → r ≡ cond a (cond f (A.Refused (record { number = 10; place = t .start })) (A.Done (t .stop) (due .spot .node + 1))) (A.Refused (record { number = 7; place = t .start }))
-        → tout ≡ cond a (cond f tin (sets tin (12 * due .spot .node) (rowOf due w (t .stop) (due .spot .node + 1)))) tin
+        → r ≡ cond a (cond f (A.Refused (refusal 10 (t .span .start))) (A.Done (t .span .stop) (due .spot .node + 1))) (A.Refused (refusal 7 (t .span .start)))
+        → tout ≡ cond a (cond f tin (sets tin (nodeWords * due .spot .node) (rowOf due w (t .span .stop) (due .spot .node + 1)))) tin
         → ReadAs rules s due t (beginsAt (rules .sw) s t) tin tout r
     by true true a f q u =
-        record { is = subst (RanIs (rules .sw) (rules .limits) s (openedBy rules s due t (beginsAt (rules .sw) s t)) (labelOf (due .label)) (t .start) (due .spot .depth) (due .spot .parent) (due .spot .node) tin tout) (sym q) (leaf-full (rules .sw) (rules .limits) s (t .start) (t .stop) (due .fresh) (due .any) (due .label) (due .spot .node) (due .spot .depth) w W a f) }
+        record { is = subst (RanIs (rules .sw) (rules .limits) s (openedBy rules s due t (beginsAt (rules .sw) s t)) (labelOf (due .label)) (t .span .start) (due .spot .depth) (due .spot .parent) (due .spot .node) tin tout) (sym q) (same-table u (leaf-full (rules .sw) (rules .limits) s (t .span .start) (t .span .stop) (due .fresh) (due .any) (due .label) (due .spot .node) (due .spot .depth) w W a f tin)) }
     by true false a f q u =
-        record { is = subst (RanIs (rules .sw) (rules .limits) s (openedBy rules s due t (beginsAt (rules .sw) s t)) (labelOf (due .label)) (t .start) (due .spot .depth) (due .spot .parent) (due .spot .node) tin tout) (sym q) (leaf-took (rules .sw) (rules .limits) s (t .start) (t .stop) (due .fresh) (due .any) (due .label) (due .spot .node) (due .spot .depth) w W (R .label) a f (node-left (rules .limits .nodes) (due .fresh) (due .spot .node) f (R .counted)) (P .ordered) (P .inside) (due .spot .parent) tin tout u) }
+        record { is = subst (RanIs (rules .sw) (rules .limits) s (openedBy rules s due t (beginsAt (rules .sw) s t)) (labelOf (due .label)) (t .span .start) (due .spot .depth) (due .spot .parent) (due .spot .node) tin tout) (sym q) (leaf-took (rules .sw) (rules .limits) s (t .span .start) (t .span .stop) (due .fresh) (due .any) (due .label) (due .spot .node) (due .spot .depth) w W (R .label) a f (node-left (rules .limits .nodes) (due .fresh) (due .spot .node) f (R .counted)) (P .ordered) (P .inside) (due .spot .parent) tin tout u) }
     by false f a g q u =
-        record { is = subst (RanIs (rules .sw) (rules .limits) s (openedBy rules s due t (beginsAt (rules .sw) s t)) (labelOf (due .label)) (t .start) (due .spot .depth) (due .spot .parent) (due .spot .node) tin tout) (sym q) (leaf-not (rules .sw) (rules .limits) s (t .start) (t .stop) (due .fresh) (due .any) (due .label) (due .spot .node) (due .spot .depth) w W a) }
+        record { is = subst (RanIs (rules .sw) (rules .limits) s (openedBy rules s due t (beginsAt (rules .sw) s t)) (labelOf (due .label)) (t .span .start) (due .spot .depth) (due .spot .parent) (due .spot .node) tin tout) (sym q) (same-table u (leaf-not (rules .sw) (rules .limits) s (t .span .start) (t .span .stop) (due .fresh) (due .any) (due .label) (due .spot .node) (due .spot .depth) w W a tin)) }
 
 -- ---- tokens that begin nothing
 
-pub nothing-stops : (sw : Switches) (limits : Limits) (s : List ℕ) (start stop : ℕ) (fresh any : Bool) (l : Label) (n : ℕ) (b : Begins) (d : ℕ) → b ≡ nothing
-    → Stops (opened sw limits s start stop fresh any l n b) d 7 start
+pub nothing-stops : (sw : Switches) (limits : Limits) (s : List ℕ) (start stop : ℕ) (fresh any : Bool) (l : Label) (n : ℕ) (b : Begins) (d : ℕ) (tab : List ℕ) → b ≡ nothing
+    → Stops (opened sw limits s start stop fresh any l n b) d n tab tab 7 start
 unfolding opened valueStep afterStep
-nothing-stops sw limits s start stop fresh any l n b d e = record { ran = λ stack h. ap (λ (x : Begins). opened sw limits s start stop fresh any l n x stack) e }
+nothing-stops sw limits s start stop fresh any l n b d tab e =
+    record { ran = λ stack h. ap (λ (x : Begins). opened sw limits s start stop fresh any l n x stack) e; kept = λ x h. refl }
 
 -- ---- identifiers
 
 -- no identifier in an identifier's bracket
-pub name-twice : (sw : Switches) (limits : Limits) (s : List ℕ) (start stop : ℕ) (fresh any : Bool) (l : Label) (n d : ℕ) → fresh ≡ false
-    → Stops (opened sw limits s start stop fresh any l n identifier) d 7 start
+pub name-twice : (sw : Switches) (limits : Limits) (s : List ℕ) (start stop : ℕ) (fresh any : Bool) (l : Label) (n d : ℕ) (tab : List ℕ) → fresh ≡ false
+    → Stops (opened sw limits s start stop fresh any l n identifier) d n tab tab 7 start
 unfolding opened valueStep refuseIf afterStep
-name-twice sw limits s start stop fresh any l n d e = record { ran = λ stack h. rw e }
+name-twice sw limits s start stop fresh any l n d tab e = record { ran = λ stack h. rw e; kept = λ x h. refl }
 
 -- the label of a value with no name
 no-name : (p : CL.Label) → p .name .stop ≡ 0 → labelOf p .name ≡ none
@@ -129,11 +137,9 @@ unfolding labelOf spanAt
 no-name p e = rw (eq-eqb (p .name .stop) 0 e)
 
 -- the value in the bracket of an identifier is due
-pub named-ready : {limits : Limits} {s tab : List ℕ} {due other : Due} {t : CT.Token} → other ≡ namedDue due (t .start) (t .stop) → Ready limits tab due → Placed s t → due .spot .node < limits .nodes → Ready limits tab other
+pub named-ready : {limits : Limits} {s tab : List ℕ} {due other : Due} {t : CT.Token} → other ≡ namedDue due (t .span) → Ready limits tab due → Placed s t → due .spot .node < limits .nodes → Ready limits tab other
 named-ready {limits} {s} {tab} {due} {other} {t} e R P h =
     let o = P .ordered in
-    let i = P .inside in
-    let k = P .short in
     subst (Ready limits tab) (sym e)
     (record {
       table = R .table;
@@ -143,11 +149,6 @@ named-ready {limits} {s} {tab} {due} {other} {t} e R P h =
           record {
             keys = R .label .keys;
             names = λ q. let z : ⊥ = omega arith in absurd z;
-            start-low = R .label .start-low;
-            key-low = R .label .key-low;
-            key-stop-low = R .label .key-stop-low;
-            name-low = omega arith;
-            name-stop-low = omega arith;
           };
       unnamed = λ q. absurd (false≢true q);
     })
@@ -162,14 +163,14 @@ module _ (sw : Switches) (limits : Limits) (s : List ℕ) (from : ℕ) (any : Bo
       ∙ ap (λ (x : Step). afterStep start x (λ c. runFrom sw limits s stop c)) (mode-free limits stack (inner any l) (value any none) (suc n) false any l (tokenAt sw s start stop) (begins (spanOf (tokenAt sw s start stop)) (formAt sw s start)))
 
 module _ (sw : Switches) (limits : Limits) (s : List ℕ) (start stop : ℕ) (fresh any : Bool) (p : CL.Label) (n d : ℕ) (new : fresh ≡ true) where
-  pub name-full : limits .nodes ≤ n → Stops (opened sw limits s start stop fresh any (labelOf p) n identifier) d 10 start
+  pub name-full : limits .nodes ≤ n → (tab : List ℕ) → Stops (opened sw limits s start stop fresh any (labelOf p) n identifier) d n tab tab 10 start
   unfolding opened valueStep refuseIf noNode afterStep
-  name-full h = record { ran = λ stack e. rw (new, le-leb (limits .nodes) n h) }
+  name-full h tab = record { ran = λ stack e. rw (new, le-leb (limits .nodes) n h); kept = λ x g. refl }
 
   module _ (h : n < limits .nodes) (o : start < stop) where
     -- the label with the identifier's name, as the code has it
     abbrev r : CL.Label
-    r = record { start = p .start; key = p .key; name = record { start = start; stop = stop } }
+    r = namedLabel p (record { start = start; stop = stop })
 
     name-label : labelOf r ≡ label (p .start) (spanAt (p .key .start) (p .key .stop)) (some (record { start = start; stop = stop }))
     unfolding labelOf
@@ -192,11 +193,12 @@ module _ (sw : Switches) (limits : Limits) (s : List ℕ) (start stop : ℕ) (fr
     named-goes stack a e = refl
 
     -- no bracket, or no token in it
-    pub name-not : (f : Refusal) → stop ≤ length s → aheadAfter sw s stop 40 ≡ H.Refused f
-        → Stops (opened sw limits s start stop fresh any (labelOf p) n identifier) d (f .number) (f .place)
+    pub name-not : (f : Refusal) (tab : List ℕ) → stop ≤ length s → aheadAfter sw s stop 40 ≡ H.Refused f
+        → Stops (opened sw limits s start stop fresh any (labelOf p) n identifier) d n tab tab (f .number) (f .place)
     unfolding atEnd
-    name-not f i q =
+    name-not f tab i q =
         record {
+          kept = λ x h. refl;
           ran =
               λ stack e.
               name-run stack
@@ -204,17 +206,17 @@ module _ (sw : Switches) (limits : Limits) (s : List ℕ) (start stop : ℕ) (fr
         }
 
     module _ (t : CT.Token) (q : Past sw s stop 40 t) where
-      name-open : (stack : List Frame) → opened sw limits s start stop fresh any (labelOf p) n identifier stack ≡ opened sw limits s (t .start) (t .stop) false any (labelOf r) n (beginsAt sw s t) stack
+      name-open : (stack : List Frame) → opened sw limits s start stop fresh any (labelOf p) n identifier stack ≡ opened sw limits s (t .span .start) (t .span .stop) false any (labelOf r) n (beginsAt sw s t) stack
       name-open stack =
           name-run stack
           ∙ mark-go sw limits s stop (config stack (named any (labelOf r)) (suc n)) 40 (q .place) (config stack (inner any (labelOf r)) (suc n)) (q .mark) (named-goes stack (q .mark .start) (q .place))
-          ∙ inner-run sw limits s (q .place) any (labelOf r) n (t .kind) (t .start) (t .stop) (q .token) stack
+          ∙ inner-run sw limits s (q .place) any (labelOf r) n (t .kind) (t .span .start) (t .span .stop) (q .token) stack
 
-      pub name-stop : (number place : ℕ) → Stops (opened sw limits s (t .start) (t .stop) false any (labelOf r) n (beginsAt sw s t)) d number place
-          → Stops (opened sw limits s start stop fresh any (labelOf p) n identifier) d number place
-      name-stop number place T = record { ran = λ stack y. name-open stack ∙ T .ran stack y }
+      pub name-stop : (tin out : List ℕ) (number place : ℕ) → Stops (opened sw limits s (t .span .start) (t .span .stop) false any (labelOf r) n (beginsAt sw s t)) d n tin out number place
+          → Stops (opened sw limits s start stop fresh any (labelOf p) n identifier) d n tin out number place
+      name-stop tin out number place T = record { ran = λ stack y. name-open stack ∙ T .ran stack y; kept = T .kept }
 
-      module _ (parent : ℕ) (tin out : List ℕ) (j m : ℕ) (T : Took sw limits s (opened sw limits s (t .start) (t .stop) false any (labelOf r) n (beginsAt sw s t)) (labelOf r) (t .start) d parent n tin out j m) where
+      module _ (parent : ℕ) (tin out : List ℕ) (j m : ℕ) (T : Took sw limits s (opened sw limits s (t .span .start) (t .span .stop) false any (labelOf r) n (beginsAt sw s t)) (labelOf r) (t .span .start) d parent n tin out j m) where
         closed-run : (stack : List Frame) → length stack ≡ d → opened sw limits s start stop fresh any (labelOf p) n identifier stack ≡ runFrom sw limits s j (config stack (close (T .tree)) m)
         unfolding ended
         closed-run stack y =
@@ -224,10 +226,14 @@ module _ (sw : Switches) (limits : Limits) (s : List ℕ) (start stop : ℕ) (fr
         unfolding step modeStep atEnd
         close-wants stack = record { others = λ t w. rw (not-mark (t .form) ")" w); ends = λ place. refl }
 
-        pub name-shut-not : (number place : ℕ) → NotMarked sw s j 41 number place → Stops (opened sw limits s start stop fresh any (labelOf p) n identifier) d number place
-        name-shut-not number place w = record { ran = λ stack y. closed-run stack y ∙ w .ran limits (config stack (close (T .tree)) m) (close-wants stack) }
+        pub name-shut-not : (number place : ℕ) → NotMarked sw s j 41 number place → Stops (opened sw limits s start stop fresh any (labelOf p) n identifier) d n tin out number place
+        name-shut-not number place w =
+            record {
+              ran = λ stack y. closed-run stack y ∙ w .ran limits (config stack (close (T .tree)) m) (close-wants stack);
+              kept = λ x h. ap (λ (l : List ℕ). getD l x 0) (T .wrote) ∙ getD-sets (rows parent n (T .tree)) tin x (nodeWords * n) h;
+            }
 
-        pub name-took : p .name .stop ≡ 0 → (f : ℕ) → Marked sw s j 41 f → (last : List ℕ) → last ≡ set out (12 * n + 3) f
+        pub name-took : p .name .stop ≡ 0 → (f : ℕ) → Marked sw s j 41 f → (last : List ℕ) → last ≡ set out (nodeWords * n + 3) f
             → Took sw limits s (opened sw limits s start stop fresh any (labelOf p) n identifier) (labelOf p) start d parent n tin last f m
         unfolding step modeStep isMark ended labelOf
         name-took unnamed f w last v =

@@ -6,40 +6,62 @@ ghost use lib.IntN.{pos, negsuc};
 ghost use lib.ListN.{length};
 ghost use lib.Signed.{leZ};
 ghost use Rattle.reader.specs.Tree.{integer, decimal, twosComplement, plus1000};
+ghost use Rattle.reader.specs.Reading.{maxText};
 ghost use Rattle.reader.specs.Syntax.{opensWithCapital};
-ghost use Rattle.reader.specs.Internal.Tokens.{IsToken, leafOf, Begun, markBegin, wordBegin, DecimalFits};
+ghost use Rattle.reader.specs.Internal.Tokens.{IsToken, leafOf, plainWords, Begun, markBegin, wordBegin, DecimalFits};
+use super::kinds;
 use super::tree::Begin;
 use super::tree::Kind;
-use super::tree::Token;
 use super::tree::Words;
+use lexer::item::Token;
 use lexer::item::TokenKind;
 use text::bytes::same_bytes;
 use text::switches::Switches;
 
 // ---- numbers
 
+// How many numbers a word has room for; and 64 bits that are all 1, which is -1 in two's complement.
+const WORD: u64 = 4294967296;
+
+const ALL_ONES: u64 = 18446744073709551615;
+
 // The two's complement of an integer.
-fn bits_of(z: i64) -> u64
-    ensures { λ r. ⌜ r ≡ twosComplement z ⌝ }
+fn bits_of(value: i64) -> u64
+    ensures { λ r. ⌜ r ≡ twosComplement value ⌝ }
 {
-    if z < 0 {
-        let k = (-1 - z) as u64;
-        return 18446744073709551615 - k;
+    if value < 0 {
+        let below = (-1 - value) as u64;
+        return ALL_ONES - below;
     }
-    z as u64
+    value as u64
 }
 
-fn integer_leaf(z: i64) -> Words
-    ensures { λ r. ⌜ r ≡ leafOf (integer z) ⌝ }
+// The words of a value that its kind alone says.
+fn plain_leaf(kind: u32) -> Words
+    ensures { λ r. ⌜ r ≡ plainWords kind ⌝ }
 {
-    let bits = bits_of(z);
     Words {
-        kind: 6,
-        a: (bits % 4294967296) as u32,
-        b: (bits / 4294967296) as u32,
-        c: 0,
+        kind,
+        low: 0,
+        high: 0,
+        extra: 0,
     }
 }
+
+fn integer_leaf(value: i64) -> Words
+    ensures { λ r. ⌜ r ≡ leafOf (integer value) ⌝ }
+{
+    let bits = bits_of(value);
+    Words {
+        kind: kinds::INTEGER,
+        low: (bits % WORD) as u32,
+        high: (bits / WORD) as u32,
+        extra: 0,
+    }
+}
+
+// The top bit of word 10, which says a decimal's minus.
+const MINUS: u32 = 2147483648;
 
 // The power of ten of a decimal, as its word.
 fn power_word(p: i64) -> u32
@@ -54,21 +76,21 @@ fn decimal_leaf(minus: bool, m: u64, p: i64) -> Words
     ensures { λ r. ⌜ r ≡ leafOf (decimal minus m p) ⌝ }
 {
     let power = power_word(p);
-    let low = (m % 4294967296) as u32;
-    let high = (m / 4294967296) as u32;
+    let low = (m % WORD) as u32;
+    let high = (m / WORD) as u32;
     if minus {
         return Words {
-            kind: 7,
-            a: low,
-            b: high + 2147483648,
-            c: power,
+            kind: kinds::DECIMAL,
+            low,
+            high: high + MINUS,
+            extra: power,
         };
     }
     Words {
-        kind: 7,
-        a: low,
-        b: high,
-        c: power,
+        kind: kinds::DECIMAL,
+        low,
+        high,
+        extra: power,
     }
 }
 
@@ -90,28 +112,13 @@ fn word_begin(word: &[u8]) -> Begin
     ensures { λ r. ⌜ r ≡ wordBegin (now (word .entry)) ⌝ }
 {
     if same_bytes(word, b"true") {
-        return Begin::Scalar(Words {
-            kind: 9,
-            a: 0,
-            b: 0,
-            c: 0,
-        });
+        return Begin::Scalar(plain_leaf(kinds::TRUE));
     }
     if same_bytes(word, b"false") {
-        return Begin::Scalar(Words {
-            kind: 8,
-            a: 0,
-            b: 0,
-            c: 0,
-        });
+        return Begin::Scalar(plain_leaf(kinds::FALSE));
     }
     if same_bytes(word, b"null") {
-        return Begin::Scalar(Words {
-            kind: 10,
-            a: 0,
-            b: 0,
-            c: 0,
-        });
+        return Begin::Scalar(plain_leaf(kinds::NULL));
     }
     if opens_with_capital(word) {
         return Begin::Identifier;
@@ -139,28 +146,28 @@ fn mark_begin(b: u8) -> Begin
 // What a token begins.
 pub(crate) fn begin_of(sw: Switches, text: &[u8], token: Token) -> Begin
     requires { ⌜ IsToken sw (now text) token ⌝ }
-    requires { ⌜ length (now text) ≤ 65536 ⌝ }
-    ensures { λ r. ⌜ Begun sw (now (text .entry)) (token .start) (token .stop) r ⌝ }
+    requires { ⌜ length (now text) ≤ maxText ⌝ }
+    ensures { λ r. ⌜ Begun sw (now (text .entry)) (token .span .start) (token .span .stop) r ⌝ }
 {
     let kind = token.kind;
-    let start = token.start;
-    let stop = token.stop;
+    let start = token.span.start;
+    let stop = token.span.stop;
     match kind {
         TokenKind::Mark(b) => mark_begin(b),
         TokenKind::Word => word_begin(&text[start..stop]),
         TokenKind::Text(n) => Begin::Scalar(Words {
-            kind: 4,
-            a: start as u32,
-            b: stop as u32,
-            c: n as u32,
+            kind: kinds::TEXT,
+            low: start as u32,
+            high: stop as u32,
+            extra: n as u32,
         }),
         TokenKind::Bytes(n) => Begin::Scalar(Words {
-            kind: 5,
-            a: start as u32,
-            b: stop as u32,
-            c: n as u32,
+            kind: kinds::BYTES,
+            low: start as u32,
+            high: stop as u32,
+            extra: n as u32,
         }),
-        TokenKind::Integer(z) => Begin::Scalar(integer_leaf(z)),
+        TokenKind::Integer(value) => Begin::Scalar(integer_leaf(value)),
         TokenKind::Decimal { minus, m, p } => Begin::Scalar(decimal_leaf(minus, m, p)),
     }
 }

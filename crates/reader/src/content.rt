@@ -5,6 +5,9 @@ ghost use Rattle.text.specs.Switches.{presentEdition};
 ghost use Rattle.reader.specs.Content.{contentAlone, fitting, contentCall, answered, written};
 use lexer::token::put_token;
 use literals::content::Written;
+use text::refusal::NO_STRING;
+use text::refusal::OUTPUT_FULL;
+use text::span::MAX_TEXT;
 use text::switches::Switches;
 use text::switches::present;
 use text::utf8::valid_front;
@@ -20,12 +23,12 @@ fn token_content(sw: Switches, token: &[u8], out: &mut [u8]) -> Given
     ensures { λ r. ⌜ (r ≡ answered (fitting (length (now (out .entry))) (contentAlone sw (now (token .entry))))) × (now (out .exit) ≡ written (fitting (length (now (out .entry))) (contentAlone sw (now (token .entry)))) (now (out .entry))) ⌝ }
 {
     if valid_front(token) != token.len() {
-        return Given::Refused(19);
+        return Given::Refused(NO_STRING);
     }
     match put_token(sw, token, out) {
         Written::Bytes(n) => Given::Bytes(n),
-        Written::NoRoom => Given::Refused(20),
-        Written::Refused => Given::Refused(19),
+        Written::NoRoom => Given::Refused(OUTPUT_FULL),
+        Written::Refused => Given::Refused(NO_STRING),
     }
 }
 
@@ -35,13 +38,13 @@ pub fn content_edition(sw: Switches, text: &[u8], start: usize, end: usize, out:
     ensures { λ r. ⌜ (r ≡ answered (contentCall sw start end (now (text .entry)) (now (out .entry)))) × (now (out .exit) ≡ written (contentCall sw start end (now (text .entry)) (now (out .entry))) (now (out .entry))) ⌝ }
 {
     if end < start {
-        return Given::Refused(19);
+        return Given::Refused(NO_STRING);
     }
     if text.len() < end {
-        return Given::Refused(19);
+        return Given::Refused(NO_STRING);
     }
-    if 65536 < end - start {
-        return Given::Refused(19);
+    if MAX_TEXT < end - start {
+        return Given::Refused(NO_STRING);
     }
     token_content(sw, &text[start..end], out)
 }

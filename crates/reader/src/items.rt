@@ -19,11 +19,13 @@ ghost use Rattle.reader.specs.Internal.Values.{Look, ItemAt, ElementAt};
 use super::keys::find_key;
 use super::tree::Children;
 use super::tree::Kind;
-use super::tree::Token;
 use lexer::item::Next;
+use lexer::item::Token;
 use lexer::item::TokenKind;
 use lexer::item::next_token;
+use text::refusal::DUPLICATE_KEY;
 use text::refusal::Refusal;
+use text::refusal::UNEXPECTED;
 use text::span::Span;
 use text::switches::Switches;
 
@@ -36,21 +38,21 @@ pub enum Ahead {
 // The end of the next token, where one mark alone is allowed.
 pub enum Only {
     At(usize),
-    Not(Refusal),
+    Refused(Refusal),
 }
 
 // A child's first token with its key's span, the end of the container, or a refusal.
 pub enum Item {
     Value { token: Token, key: Span },
     Last(usize),
-    Wrong(Refusal),
+    Refused(Refusal),
 }
 
 // After a child: the end of a comma, the end of the container, or a refusal.
 pub enum After {
     More(usize),
     Over(usize),
-    Off(Refusal),
+    Refused(Refusal),
 }
 
 // ---- tokens
@@ -96,13 +98,12 @@ pub(crate) fn token_from(sw: Switches, text: &[u8], from: usize) -> Ahead
     ensures { λ r. ⌜ r ≡ aheadAt sw (now (text .entry)) from ⌝ }
 {
     match next_token(sw, text, from) {
-        Next::Token { kind, start, end } => Ahead::Token(Token {
-            kind,
-            start,
-            stop: end,
+        Next::Token(token) => Ahead::Token(token),
+        Next::End(place) => Ahead::Refused(Refusal {
+            number: UNEXPECTED,
+            place,
         }),
-        Next::End(place) => Ahead::Refused(Refusal { number: 7, place }),
-        Next::Fault { number, place } => Ahead::Refused(Refusal { number, place }),
+        Next::Refused(refusal) => Ahead::Refused(refusal),
     }
 }
 
@@ -113,12 +114,15 @@ pub(crate) fn one_mark(sw: Switches, text: &[u8], from: usize, want: u8) -> Only
     match token_from(sw, text, from) {
         Ahead::Token(token) => {
             if is_mark(token, want) {
-                return Only::At(token.stop);
+                return Only::At(token.span.stop);
             }
-            let place = token.start;
-            Only::Not(Refusal { number: 7, place })
+            let place = token.span.start;
+            Only::Refused(Refusal {
+                number: UNEXPECTED,
+                place,
+            })
         }
-        Ahead::Refused(refusal) => Only::Not(refusal),
+        Ahead::Refused(refusal) => Only::Refused(refusal),
     }
 }
 
@@ -128,7 +132,7 @@ pub(crate) fn token_after(sw: Switches, text: &[u8], from: usize, want: u8) -> A
 {
     match one_mark(sw, text, from, want) {
         Only::At(stop) => token_from(sw, text, stop),
-        Only::Not(refusal) => Ahead::Refused(refusal),
+        Only::Refused(refusal) => Ahead::Refused(refusal),
     }
 }
 
@@ -178,12 +182,12 @@ fn next_element(sw: Switches, text: &[u8], kind: Kind, count: usize, from: usize
     match token_from(sw, text, from) {
         Ahead::Token(token) => {
             if is_mark(token, closer) {
-                return Item::Last(token.stop);
+                return Item::Last(token.span.stop);
             }
             if opens_empty(sw, kind, count, token) {
-                return match one_mark(sw, text, token.stop, closer) {
+                return match one_mark(sw, text, token.span.stop, closer) {
                     Only::At(stop) => Item::Last(stop),
-                    Only::Not(refusal) => Item::Wrong(refusal),
+                    Only::Refused(refusal) => Item::Refused(refusal),
                 };
             }
             Item::Value {
@@ -191,7 +195,7 @@ fn next_element(sw: Switches, text: &[u8], kind: Kind, count: usize, from: usize
                 key: Span { start: 0, stop: 0 },
             }
         }
-        Ahead::Refused(refusal) => Item::Wrong(refusal),
+        Ahead::Refused(refusal) => Item::Refused(refusal),
     }
 }
 
@@ -201,7 +205,7 @@ fn after_key(sw: Switches, text: &[u8], key: Span) -> Item
 {
     match token_after(sw, text, key.stop, b':') {
         Ahead::Token(token) => Item::Value { token, key },
-        Ahead::Refused(refusal) => Item::Wrong(refusal),
+        Ahead::Refused(refusal) => Item::Refused(refusal),
     }
 }
 
@@ -213,20 +217,25 @@ fn next_field(sw: Switches, text: &[u8], table: &[u32], children: Children, from
     match token_from(sw, text, from) {
         Ahead::Token(token) => {
             if is_mark(token, b'}') {
-                return Item::Last(token.stop);
+                return Item::Last(token.span.stop);
             }
-            let place = token.start;
+            let place = token.span.start;
             if is_key(token) {
-                let stop = token.stop;
-                let key = Span { start: place, stop };
+                let key = token.span;
                 if find_key(sw, text, table, children, key) {
-                    return Item::Wrong(Refusal { number: 8, place });
+                    return Item::Refused(Refusal {
+                        number: DUPLICATE_KEY,
+                        place,
+                    });
                 }
                 return after_key(sw, text, key);
             }
-            Item::Wrong(Refusal { number: 7, place })
+            Item::Refused(Refusal {
+                number: UNEXPECTED,
+                place,
+            })
         }
-        Ahead::Refused(refusal) => Item::Wrong(refusal),
+        Ahead::Refused(refusal) => Item::Refused(refusal),
     }
 }
 
@@ -257,14 +266,17 @@ pub(crate) fn after_item(sw: Switches, text: &[u8], kind: Kind, from: usize) -> 
     match token_from(sw, text, from) {
         Ahead::Token(token) => {
             if is_mark(token, closer) {
-                return After::Over(token.stop);
+                return After::Over(token.span.stop);
             }
             if is_mark(token, b',') {
-                return After::More(token.stop);
+                return After::More(token.span.stop);
             }
-            let place = token.start;
-            After::Off(Refusal { number: 7, place })
+            let place = token.span.start;
+            After::Refused(Refusal {
+                number: UNEXPECTED,
+                place,
+            })
         }
-        Ahead::Refused(refusal) => After::Off(refusal),
+        Ahead::Refused(refusal) => After::Refused(refusal),
     }
 }

@@ -1,6 +1,9 @@
-// Keys: whether one stands among the keys of an object's children so far, which are found by following word 8 in the table.
+// Keys: whether one stands among the keys of an object's children so far, which are found by following word 8.
 ghost use Rattle.reader.specs.Internal.Values.{Chained, KeyHere, FoundKey};
-use super::rows::word;
+use super::rows::KEY_START;
+use super::rows::KEY_STOP;
+use super::rows::NEXT;
+use super::rows::word_of;
 use super::tree::Children;
 use lexer::token::content_is;
 use lexer::token::part_of;
@@ -20,22 +23,22 @@ pub(crate) fn find_key(
     requires { ⌜ KeyHere sw (now text) (key .start) (key .stop) ⌝ }
     ensures { λ r. ⌜ FoundKey sw (now (text .entry)) (now (table .entry)) (children .first) (children .next) (key .start) (key .stop) r ⌝ }
 {
-    let a = key.start;
-    let e = key.stop;
-    let token = &text[a..e];
+    let start = key.start;
+    let stop = key.stop;
+    let token = &text[start..stop];
     let part = part_of(sw, token);
     let body = part.body;
-    let start = part.from;
-    let stop = part.to;
-    let own = &token[start..stop];
+    let from = part.from;
+    let to = part.to;
+    let own = &token[from..to];
     let mut x = children.first;
     while x < children.next {
-        let b = word(table, 12 * x + 4);
-        let f = word(table, 12 * x + 5);
-        if content_is(sw, &text[b..f], body, own) {
+        let a = word_of(table, x, KEY_START);
+        let e = word_of(table, x, KEY_STOP);
+        if content_is(sw, &text[a..e], body, own) {
             return true;
         }
-        x = word(table, 12 * x + 8);
+        x = word_of(table, x, NEXT);
     }
     false
 }

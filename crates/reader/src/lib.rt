@@ -3,6 +3,7 @@ pub mod begin;
 pub mod content;
 pub mod items;
 pub mod keys;
+pub mod kinds;
 pub mod read;
 pub mod rows;
 pub mod tree;

@@ -3,13 +3,17 @@ ghost use mathlib.Core.Path.{_≡_};
 ghost use Prim.Native.Nat.{_≤_};
 ghost use lib.ListN.{length};
 ghost use Rattle.text.specs.Switches.{presentEdition};
-ghost use Rattle.reader.specs.Reading.{reading, tableOf, answerOf, nodeLimit, oneValue};
+ghost use Rattle.reader.specs.Reading.{maxText, reading, tableOf, answerOf, nodeLimit, oneValue};
 ghost use Rattle.reader.specs.Internal.Values.{Roomy};
 ghost use Rattle.reader.specs.Internal.Whole.{aloneAt, WholeAt, JudgedAt};
 use super::items::Ahead;
 use super::items::token_from;
+use super::rows::NO_PARENT;
+use super::rows::NODE_WORDS;
 use super::rows::clear;
 use super::tree::Limits;
+use super::tree::MAX_DEPTH;
+use super::tree::MAX_NODES;
 use super::tree::Rules;
 use super::tree::Spot;
 use super::values::Answer;
@@ -17,7 +21,11 @@ use super::values::fresh_due;
 use super::values::read_value;
 use lexer::item::Next;
 use lexer::item::next_token;
+use text::refusal::NOT_UTF8;
 use text::refusal::Refusal;
+use text::refusal::TOO_LONG;
+use text::refusal::UNEXPECTED;
+use text::span::MAX_TEXT;
 use text::span::Span;
 use text::switches::Switches;
 use text::switches::present;
@@ -45,19 +53,18 @@ fn only_value(sw: Switches, text: &[u8], start: usize, stop: usize, nodes: usize
 {
     match next_token(sw, text, stop) {
         Next::End(_) => Whole::Done { start, stop, nodes },
-        Next::Token {
-            kind: _,
-            start: place,
-            end: _,
-        } => Whole::Refused(Refusal { number: 7, place }),
-        Next::Fault { number, place } => Whole::Refused(Refusal { number, place }),
+        Next::Token(token) => Whole::Refused(Refusal {
+            number: UNEXPECTED,
+            place: token.span.start,
+        }),
+        Next::Refused(refusal) => Whole::Refused(refusal),
     }
 }
 
 // The one value of a text, and nothing after it. `any`: a value of every kind, or else a root.
 fn read_whole(rules: Rules, text: &[u8], table: &mut [u32], any: bool) -> Whole
     requires { ⌜ Roomy (rules .limits) (now table) ⌝ }
-    requires { ⌜ length (now text) ≤ 65536 ⌝ }
+    requires { ⌜ length (now text) ≤ maxText ⌝ }
     ensures { λ r. ⌜ WholeAt rules any (now (text .entry)) (now (table .entry)) (now (table .exit)) r ⌝ }
 {
     match token_from(rules.sw, text, 0) {
@@ -65,12 +72,18 @@ fn read_whole(rules: Rules, text: &[u8], table: &mut [u32], any: bool) -> Whole
             let spot = Spot {
                 node: 0,
                 depth: 0,
-                parent: 4294967295,
+                parent: NO_PARENT,
             };
-            let due = fresh_due(any, token.start, Span { start: 0, stop: 0 }, spot);
+            let due = fresh_due(any, token.span.start, Span { start: 0, stop: 0 }, spot);
             match read_value(rules, text, table, due, token) {
                 Answer::Refused(refusal) => Whole::Refused(refusal),
-                Answer::Done(stop, nodes) => only_value(rules.sw, text, token.start, stop, nodes),
+                Answer::Done(stop, nodes) => only_value(
+                    rules.sw,
+                    text,
+                    token.span.start,
+                    stop,
+                    nodes,
+                ),
             }
         }
         Ahead::Refused(refusal) => Whole::Refused(refusal),
@@ -82,16 +95,16 @@ fn judge(rules: Rules, text: &[u8], table: &mut [u32], any: bool) -> Whole
     requires { ⌜ Roomy (rules .limits) (now table) ⌝ }
     ensures { λ r. ⌜ JudgedAt rules any (now (text .entry)) (now (table .entry)) (now (table .exit)) r ⌝ }
 {
-    if 65536 < text.len() {
+    if MAX_TEXT < text.len() {
         return Whole::Refused(Refusal {
-            number: 1,
-            place: 65536,
+            number: TOO_LONG,
+            place: MAX_TEXT,
         });
     }
     let front = valid_front(text);
     if front < text.len() {
         return Whole::Refused(Refusal {
-            number: 2,
+            number: NOT_UTF8,
             place: front,
         });
     }
@@ -102,11 +115,11 @@ fn judge(rules: Rules, text: &[u8], table: &mut [u32], any: bool) -> Whole
 fn node_limit(words: usize) -> usize
     ensures { λ r. ⌜ r ≡ nodeLimit words ⌝ }
 {
-    let q = words / 12;
-    if q < 4096 {
-        return q;
+    let rows = words / NODE_WORDS;
+    if rows < MAX_NODES {
+        return rows;
     }
-    4096
+    MAX_NODES
 }
 
 // Reads a text of the edition that `sw` says into the table.
@@ -115,7 +128,7 @@ pub fn read_edition(sw: Switches, text: &[u8], table: &mut [u32]) -> Reading
 {
     clear(table);
     let limits = Limits {
-        depth: 32,
+        depth: MAX_DEPTH,
         nodes: node_limit(table.len()),
     };
     match judge(Rules { sw, limits }, text, table, false) {
@@ -142,10 +155,10 @@ pub fn read(text: &[u8], table: &mut [u32]) -> Reading
 pub fn one_value(sw: Switches, any: bool, text: &[u8]) -> bool
     ensures { λ r. ⌜ r ≡ oneValue sw any (now (text .entry)) ⌝ }
 {
-    let mut table = [0u32; 49152];
+    let mut table = [0u32; NODE_WORDS * MAX_NODES];
     let limits = Limits {
-        depth: 32,
-        nodes: 4096,
+        depth: MAX_DEPTH,
+        nodes: MAX_NODES,
     };
     match judge(Rules { sw, limits }, text, &mut table, any) {
         Whole::Done {

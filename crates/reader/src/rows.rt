@@ -3,39 +3,73 @@ ghost use mathlib.Core.Path.{_≡_};
 ghost use Prim.Native.Nat.{_≤_, _<_, _+_, _*_};
 ghost use lib.ListN.{length, getD, set, replicate};
 ghost use lib.Seq.{sets};
-ghost use Rattle.reader.specs.Tree.{kindNumber};
+ghost use Rattle.reader.specs.Tree.{kindNumber, nodeWords};
+ghost use Rattle.reader.specs.Reading.{wordOf};
 ghost use Rattle.reader.specs.Internal.Values.{rowOf, RowRoom};
+use super::kinds;
 use super::tree::Due;
 use super::tree::Kind;
 use super::tree::Words;
 
-// Writes the twelve words of a node whose value ends at `stop`; the next node that is not below it is `next`.
+// How many words a node has.
+pub const NODE_WORDS: usize = 12;
+
+// The words of a node by what they hold. `LOW`, `HIGH` and `EXTRA` are told by the kind: a container's count of children; a string's
+// span and the length of its content; a number's two halves, and of a decimal the power of ten.
+pub const KIND: usize = 0;
+
+pub const PARENT: usize = 1;
+
+pub const START: usize = 2;
+
+pub const STOP: usize = 3;
+
+pub const KEY_START: usize = 4;
+
+pub const KEY_STOP: usize = 5;
+
+pub const NAME_START: usize = 6;
+
+pub const NAME_STOP: usize = 7;
+
+pub const NEXT: usize = 8;
+
+pub const LOW: usize = 9;
+
+pub const HIGH: usize = 10;
+
+pub const EXTRA: usize = 11;
+
+// The parent's word of the root.
+pub const NO_PARENT: u32 = 4294967295;
+
+// Writes the words of a node whose value ends at `stop`; the next node that is not below it is `next`.
 pub(crate) fn put_row(table: &mut [u32], due: Due, words: Words, stop: usize, next: usize)
     requires { ⌜ RowRoom (now table) due stop next ⌝ }
-    ensures { λ _. ⌜ now (table .exit) ≡ sets (now (table .entry)) (12 * due .spot .node) (rowOf due words stop next) ⌝ }
+    ensures { λ _. ⌜ now (table .exit) ≡ sets (now (table .entry)) (nodeWords * due .spot .node) (rowOf due words stop next) ⌝ }
 {
     let label = due.label;
-    let i = 12 * due.spot.node;
-    table[i] = words.kind;
-    table[i + 1] = due.spot.parent;
-    table[i + 2] = label.start as u32;
-    table[i + 3] = stop as u32;
-    table[i + 4] = label.key.start as u32;
-    table[i + 5] = label.key.stop as u32;
-    table[i + 6] = label.name.start as u32;
-    table[i + 7] = label.name.stop as u32;
-    table[i + 8] = next as u32;
-    table[i + 9] = words.a;
-    table[i + 10] = words.b;
-    table[i + 11] = words.c;
+    let row = NODE_WORDS * due.spot.node;
+    table[row + KIND] = words.kind;
+    table[row + PARENT] = due.spot.parent;
+    table[row + START] = label.start;
+    table[row + STOP] = stop as u32;
+    table[row + KEY_START] = label.key.start;
+    table[row + KEY_STOP] = label.key.stop;
+    table[row + NAME_START] = label.name.start;
+    table[row + NAME_STOP] = label.name.stop;
+    table[row + NEXT] = next as u32;
+    table[row + LOW] = words.low;
+    table[row + HIGH] = words.high;
+    table[row + EXTRA] = words.extra;
 }
 
 // Writes word 3 of a node anew: the end of its identifier's bracket.
 pub(crate) fn put_stop(table: &mut [u32], node: usize, stop: u32)
-    requires { ⌜ 12 * node + 12 ≤ length (now table) ⌝ }
-    ensures { λ _. ⌜ now (table .exit) ≡ set (now (table .entry)) (12 * node + 3) stop ⌝ }
+    requires { ⌜ nodeWords * node + nodeWords ≤ length (now table) ⌝ }
+    ensures { λ _. ⌜ now (table .exit) ≡ set (now (table .entry)) (nodeWords * node + 3) stop ⌝ }
 {
-    table[12 * node + 3] = stop;
+    table[NODE_WORDS * node + STOP] = stop;
 }
 
 // Word 0 of a container.
@@ -43,9 +77,9 @@ pub(crate) fn kind_word(kind: Kind) -> u32
     ensures { λ r. ⌜ r ≡ kindNumber kind ⌝ }
 {
     match kind {
-        Kind::Object => 1,
-        Kind::Array => 2,
-        Kind::Tuple => 3,
+        Kind::Object => kinds::OBJECT,
+        Kind::Array => kinds::ARRAY,
+        Kind::Tuple => kinds::TUPLE,
     }
 }
 
@@ -60,16 +94,23 @@ pub fn clear(table: &mut [u32])
     }
 }
 
-fn wide(x: u32) -> usize
-    ensures { λ r. ⌜ r ≡ x ⌝ }
+// Word `w` of a node; 0 past the table's end.
+pub fn word32_of(table: &[u32], node: usize, w: usize) -> u32
+    ensures { λ r. ⌜ r ≡ wordOf (now (table .entry)) node w ⌝ }
 {
-    x as usize
+    if table.len() / NODE_WORDS < node {
+        return 0;
+    }
+    let row = NODE_WORDS * node;
+    if table.len() - row <= w {
+        return 0;
+    }
+    table[row + w]
 }
 
-// Word `i` of a table.
-pub fn word(table: &[u32], i: usize) -> usize
-    requires { ⌜ i < length (now table) ⌝ }
-    ensures { λ r. ⌜ r ≡ getD (now (table .entry)) i 0 ⌝ }
+// The same as a place or a node's number.
+pub fn word_of(table: &[u32], node: usize, w: usize) -> usize
+    ensures { λ r. ⌜ r ≡ wordOf (now (table .entry)) node w ⌝ }
 {
-    wide(table[i])
+    word32_of(table, node, w) as usize
 }

@@ -1,6 +1,4 @@
 // What the reader's functions hand each other.
-use lexer::item::TokenKind;
-use text::span::Span;
 use text::switches::Switches;
 
 // The containers.
@@ -9,6 +7,11 @@ pub enum Kind {
     Array,
     Tuple,
 }
+
+// The most containers that may be open at once, and the most nodes that a text may have.
+pub const MAX_DEPTH: usize = 32;
+
+pub const MAX_NODES: usize = 4096;
 
 // How many containers may be open at once, and how many nodes a text may have.
 pub struct Limits {
@@ -22,18 +25,18 @@ pub struct Rules {
     pub limits: Limits,
 }
 
-// A token: its kind, and where it stands.
-pub struct Token {
-    pub kind: TokenKind,
-    pub start: usize,
-    pub stop: usize,
+// A span as words of a row; 0, 0 if there is none.
+pub struct SpanWords {
+    pub start: u32,
+    pub stop: u32,
 }
 
-// What is known of a value that has begun: its start, and the spans of its key and of its identifier's name.
+// What is known of a value that has begun, as words of its row: its start, and the spans of its key and of its identifier's name. Words are
+// half as wide as places, and a label waits on the stack until its value ends.
 pub struct Label {
-    pub start: usize,
-    pub key: Span,
-    pub name: Span,
+    pub start: u32,
+    pub key: SpanWords,
+    pub name: SpanWords,
 }
 
 // Where a value stands in the tree: its node, how many containers are open around it, and the word for its parent.
@@ -59,12 +62,12 @@ pub struct Children {
     pub count: usize,
 }
 
-// Words 0 and 9 to 11 of a node.
+// The words of a node that say its value: 0 and 9 to 11.
 pub struct Words {
     pub kind: u32,
-    pub a: u32,
-    pub b: u32,
-    pub c: u32,
+    pub low: u32,
+    pub high: u32,
+    pub extra: u32,
 }
 
 // What a token begins.

@@ -5,9 +5,13 @@ ghost use lib.Dec.{leb};
 ghost use Prim.Native.Nat.{_≤_, _<_, _*_};
 ghost use lib.ListN.{length};
 ghost use lib.Seq.{sets};
+ghost use Rattle.reader.specs.Tree.{nodeWords};
+ghost use Rattle.reader.specs.Reading.{maxText};
 ghost use Rattle.reader.specs.Syntax.{container, identifier};
 ghost use Rattle.reader.specs.Internal.Tokens.{IsToken, beginsAt};
 ghost use Rattle.reader.specs.Internal.Values.{
+  Short,
+  wordsOf,
   freshDue,
   childSpot,
   namedDue,
@@ -39,10 +43,14 @@ use super::tree::Kind;
 use super::tree::Label;
 use super::tree::Limits;
 use super::tree::Rules;
+use super::tree::SpanWords;
 use super::tree::Spot;
-use super::tree::Token;
 use super::tree::Words;
+use lexer::item::Token;
+use text::refusal::NO_NODE_LEFT;
 use text::refusal::Refusal;
+use text::refusal::TOO_DEEP;
+use text::refusal::UNEXPECTED;
 use text::span::Span;
 
 // A value was read: the place after it, and the number of nodes then; or a refusal.
@@ -53,12 +61,27 @@ pub enum Answer {
 
 // ---- what is due
 
+fn span_words(span: Span) -> SpanWords
+    requires { ⌜ Short span ⌝ }
+    ensures { λ r. ⌜ r ≡ wordsOf span ⌝ }
+{
+    SpanWords {
+        start: span.start as u32,
+        stop: span.stop as u32,
+    }
+}
+
 // A value that begins at `start`, with no identifier so far.
 pub(crate) fn fresh_due(any: bool, start: usize, key: Span, spot: Spot) -> Due
+    requires { ⌜ (start ≤ maxText) × Short key ⌝ }
     ensures { λ r. ⌜ r ≡ freshDue any start key spot ⌝ }
 {
-    let name = Span { start: 0, stop: 0 };
-    let label = Label { start, key, name };
+    let name = SpanWords { start: 0, stop: 0 };
+    let label = Label {
+        start: start as u32,
+        key: span_words(key),
+        name,
+    };
     Due {
         any,
         fresh: true,
@@ -70,6 +93,7 @@ pub(crate) fn fresh_due(any: bool, start: usize, key: Span, spot: Spot) -> Due
 // A child of the value at this spot, as this node.
 fn child_due(spot: Spot, node: usize, start: usize, key: Span) -> Due
     requires { ⌜ (spot .depth < 18446744073709551615) × (spot .node < 4294967296) ⌝ }
+    requires { ⌜ (start ≤ maxText) × Short key ⌝ }
     ensures { λ r. ⌜ r ≡ freshDue true start key (childSpot spot node) ⌝ }
 {
     let own = Spot {
@@ -81,18 +105,15 @@ fn child_due(spot: Spot, node: usize, start: usize, key: Span) -> Due
 }
 
 // The value in the bracket of the identifier with this name.
-fn named_due(due: Due, token: Token) -> Due
-    ensures { λ r. ⌜ r ≡ namedDue due (token .start) (token .stop) ⌝ }
+fn named_due(due: Due, name: Span) -> Due
+    requires { ⌜ Short name ⌝ }
+    ensures { λ r. ⌜ r ≡ namedDue due name ⌝ }
 {
     let key = due.label.key;
-    let name = Span {
-        start: token.start,
-        stop: token.stop,
-    };
     let label = Label {
         start: due.label.start,
         key,
-        name,
+        name: span_words(name),
     };
     let spot = due.spot;
     Due {
@@ -118,20 +139,26 @@ fn is_full(limits: Limits, due: Due) -> bool
 // A value that holds no others, with its own words.
 fn put_leaf(limits: Limits, table: &mut [u32], due: Due, token: Token, words: Words) -> Answer
     requires { ⌜ Ready limits (now table) due ⌝ }
-    requires { ⌜ token .stop ≤ 65536 ⌝ }
+    requires { ⌜ token .span .stop ≤ maxText ⌝ }
     ensures { λ r. ⌜ r ≡ leafAnswer limits due token ⌝ }
     ensures { λ _. ⌜ now (table .exit) ≡ leafTable limits due token words (now (table .entry)) ⌝ }
 {
-    let place = token.start;
+    let place = token.span.start;
     if due.any {
         if is_full(limits, due) {
-            return Answer::Refused(Refusal { number: 10, place });
+            return Answer::Refused(Refusal {
+                number: NO_NODE_LEFT,
+                place,
+            });
         }
         let next = due.spot.node + 1;
-        put_row(table, due, words, token.stop, next);
-        return Answer::Done(token.stop, next);
+        put_row(table, due, words, token.span.stop, next);
+        return Answer::Done(token.span.stop, next);
     }
-    Answer::Refused(Refusal { number: 7, place })
+    Answer::Refused(Refusal {
+        number: UNEXPECTED,
+        place,
+    })
 }
 
 // A container that ends at `stop`, with all its children.
@@ -139,13 +166,13 @@ fn put_branch(table: &mut [u32], due: Due, kind: Kind, children: Children, stop:
     requires { ⌜ RowRoom (now table) due stop (children .next) ⌝ }
     requires { ⌜ children .count ≤ children .next ⌝ }
     ensures { λ r. ⌜ r ≡ Answer.Done stop (children .next) ⌝ }
-    ensures { λ _. ⌜ now (table .exit) ≡ sets (now (table .entry)) (12 * due .spot .node) (rowOf due (branchWords kind (children .count)) stop (children .next)) ⌝ }
+    ensures { λ _. ⌜ now (table .exit) ≡ sets (now (table .entry)) (nodeWords * due .spot .node) (rowOf due (branchWords kind (children .count)) stop (children .next)) ⌝ }
 {
     let words = Words {
         kind: kind_word(kind),
-        a: children.count as u32,
-        b: 0,
-        c: 0,
+        low: children.count as u32,
+        high: 0,
+        extra: 0,
     };
     put_row(table, due, words, stop, children.next);
     Answer::Done(stop, children.next)
@@ -163,15 +190,18 @@ pub(crate) fn read_value(
 ) -> Answer
     requires { ⌜ Ready (rules .limits) (now table) due ⌝ }
     requires { ⌜ IsToken (rules .sw) (now text) token ⌝ }
-    requires { ⌜ length (now text) ≤ 65536 ⌝ }
+    requires { ⌜ length (now text) ≤ maxText ⌝ }
     ensures { λ r. ⌜ ReadAs rules (now (text .entry)) due token (beginsAt (rules .sw) (now (text .entry)) token) (now (table .entry)) (now (table .exit)) r ⌝ }
 {
-    let place = token.start;
+    let place = token.span.start;
     match begin_of(rules.sw, text, token) {
         Begin::Container(kind) => read_container(rules, text, table, due, kind, token),
         Begin::Scalar(words) => put_leaf(rules.limits, table, due, token, words),
         Begin::Identifier => read_identifier(rules, text, table, due, token),
-        Begin::Nothing => Answer::Refused(Refusal { number: 7, place }),
+        Begin::Nothing => Answer::Refused(Refusal {
+            number: UNEXPECTED,
+            place,
+        }),
     }
 }
 
@@ -188,16 +218,22 @@ fn read_container(
     requires { ⌜ Placed (now text) bracket ⌝ }
     ensures { λ r. ⌜ ReadAs rules (now (text .entry)) due bracket (container kind) (now (table .entry)) (now (table .exit)) r ⌝ }
 {
-    let place = bracket.start;
+    let place = bracket.span.start;
     let spot = due.spot;
     if rules.limits.depth <= spot.depth {
-        return Answer::Refused(Refusal { number: 9, place });
+        return Answer::Refused(Refusal {
+            number: TOO_DEEP,
+            place,
+        });
     }
     if is_full(rules.limits, due) {
-        return Answer::Refused(Refusal { number: 10, place });
+        return Answer::Refused(Refusal {
+            number: NO_NODE_LEFT,
+            place,
+        });
     }
     let first = spot.node + 1;
-    let mut from = bracket.stop;
+    let mut from = bracket.span.stop;
     let mut children = Children {
         first,
         next: first,
@@ -205,17 +241,17 @@ fn read_container(
     };
     loop {
         match next_item(rules.sw, text, table, kind, children, from) {
-            Item::Wrong(refusal) => return Answer::Refused(refusal),
+            Item::Refused(refusal) => return Answer::Refused(refusal),
             Item::Last(end) => return put_branch(table, due, kind, children, end),
             Item::Value { token, key } => {
-                let child = child_due(spot, children.next, token.start, key);
+                let child = child_due(spot, children.next, token.span.start, key);
                 match read_value(rules, text, table, child, token) {
                     Answer::Refused(refusal) => return Answer::Refused(refusal),
                     Answer::Done(stop, next) => {
                         children.next = next;
                         children.count += 1;
                         match after_item(rules.sw, text, kind, stop) {
-                            After::Off(refusal) => return Answer::Refused(refusal),
+                            After::Refused(refusal) => return Answer::Refused(refusal),
                             After::Over(end) => return put_branch(table, due, kind, children, end),
                             After::More(comma) => from = comma,
                         }
@@ -232,20 +268,26 @@ fn read_identifier(rules: Rules, text: &[u8], table: &mut [u32], due: Due, name:
     requires { ⌜ Placed (now text) name ⌝ }
     ensures { λ r. ⌜ ReadAs rules (now (text .entry)) due name identifier (now (table .entry)) (now (table .exit)) r ⌝ }
 {
-    let place = name.start;
+    let place = name.span.start;
     if !due.fresh {
-        return Answer::Refused(Refusal { number: 7, place });
+        return Answer::Refused(Refusal {
+            number: UNEXPECTED,
+            place,
+        });
     }
     if rules.limits.nodes <= due.spot.node {
-        return Answer::Refused(Refusal { number: 10, place });
+        return Answer::Refused(Refusal {
+            number: NO_NODE_LEFT,
+            place,
+        });
     }
-    let inner = named_due(due, name);
-    match token_after(rules.sw, text, name.stop, b'(') {
+    let inner = named_due(due, name.span);
+    match token_after(rules.sw, text, name.span.stop, b'(') {
         Ahead::Refused(refusal) => Answer::Refused(refusal),
         Ahead::Token(token) => match read_value(rules, text, table, inner, token) {
             Answer::Refused(refusal) => Answer::Refused(refusal),
             Answer::Done(stop, next) => match one_mark(rules.sw, text, stop, b')') {
-                Only::Not(refusal) => Answer::Refused(refusal),
+                Only::Refused(refusal) => Answer::Refused(refusal),
                 Only::At(end) => {
                     put_stop(table, due.spot.node, end as u32);
                     Answer::Done(end, next)

@@ -6,6 +6,7 @@ use mathlib.Core.Bool.{Bool, true, false, cond}
 use mathlib.Core.List.{List}
 use lib.Dec.{eqb}
 use Rattle.text.specs.declared.switches.Switches.{Switches}
+use Rattle.text.specs.Refusal.{refusal}
 use Rattle.lexer.specs.declared.item.TokenKind.{TokenKind}
 use Rattle.lexer.specs.declared.item.TokenKind.the-variants as K
 use Rattle.lexer.specs.declared.item.Next.{Next}
@@ -52,9 +53,9 @@ isKey (K.Decimal minus m p) = false
 
 -- the next token, or a refusal
 unfoldable pub aheadOf : Next → Ahead
-aheadOf (N.Token kind start stop) = H.Token (record { kind = kind; start = start; stop = stop })
-aheadOf (N.End place) = H.Refused (record { number = 7; place = place })
-aheadOf (N.Fault number place) = H.Refused (record { number = number; place = place })
+aheadOf (N.Token t) = H.Token t
+aheadOf (N.End place) = H.Refused (refusal 7 place)
+aheadOf (N.Refused f) = H.Refused f
 
 -- the same from a place of the text
 abbrev pub aheadAt : Switches → List ℕ → (from : ℕ) → Ahead
@@ -62,8 +63,8 @@ aheadAt sw s from = aheadOf (firstOf (tokensFrom sw s from))
 
 -- its end, if it is this mark
 unfoldable pub onlyOf : (want : ℕ) → Ahead → Only
-onlyOf want (H.Token t) = cond (markIs (t .kind) want) (O.At (t .stop)) (O.Not (record { number = 7; place = t .start }))
-onlyOf want (H.Refused f) = O.Not f
+onlyOf want (H.Token t) = cond (markIs (t .kind) want) (O.At (t .span .stop)) (O.Refused (refusal 7 (t .span .start)))
+onlyOf want (H.Refused f) = O.Refused f
 
 -- the same from a place of the text
 abbrev pub onlyAt : Switches → List ℕ → (from want : ℕ) → Only
@@ -72,7 +73,7 @@ onlyAt sw s from want = onlyOf want (aheadAt sw s from)
 -- the token after a mark that has been looked for
 unfoldable pub pastMark : Switches → List ℕ → Only → Ahead
 pastMark sw s (O.At stop) = aheadAt sw s stop
-pastMark sw s (O.Not f) = H.Refused f
+pastMark sw s (O.Refused f) = H.Refused f
 
 -- the token after this mark, which comes next
 abbrev pub aheadAfter : Switches → List ℕ → (from want : ℕ) → Ahead
@@ -81,14 +82,14 @@ aheadAfter sw s from want = pastMark sw s (onlyAt sw s from want)
 -- a value's first token with its key
 unfoldable pub keyedItem : CS.Span → Ahead → Item
 keyedItem key (H.Token t) = I.Value t key
-keyedItem key (H.Refused f) = I.Wrong f
+keyedItem key (H.Refused f) = I.Refused f
 
 -- what follows a child of such a container
 unfoldable pub followsBy : Kind → Ahead → After
 followsBy kind (H.Token t) =
-    cond (markIs (t .kind) (closerByte kind)) (X.Over (t .stop))
-    (cond (markIs (t .kind) 44) (X.More (t .stop)) (X.Off (record { number = 7; place = t .start })))
-followsBy kind (H.Refused f) = X.Off f
+    cond (markIs (t .kind) (closerByte kind)) (X.Over (t .span .stop))
+    (cond (markIs (t .kind) 44) (X.More (t .span .stop)) (X.Refused (refusal 7 (t .span .start))))
+followsBy kind (H.Refused f) = X.Refused f
 
 -- the same from a place of the text
 abbrev pub followsAt : Switches → List ℕ → Kind → (from : ℕ) → After

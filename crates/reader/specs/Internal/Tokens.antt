@@ -14,7 +14,7 @@ use Rattle.lexer.specs.Token as L
 use Rattle.lexer.specs.Token.{Form, Item, Token, itemAt}
 use Rattle.lexer.specs.Answer.{kindOf}
 use Rattle.reader.specs.declared.tree.Kind.the-variants.{Object, Array, Tuple}
-use Rattle.reader.specs.declared.tree.Token as CT
+use Rattle.lexer.specs.declared.item.Token as CT
 use Rattle.reader.specs.declared.tree.Words.{Words}
 use Rattle.reader.specs.declared.tree.Begin.{Begin}
 use Rattle.reader.specs.declared.tree.Begin.the-variants as B
@@ -44,15 +44,19 @@ pub record TokenAt (sw : Switches) (s : List ℕ) (k : TokenKind) (start stop : 
 
 -- the same of the code's token
 abbrev pub IsToken : Switches → List ℕ → CT.Token → Type 0
-IsToken sw s t = TokenAt sw s (t .kind) (t .start) (t .stop)
+IsToken sw s t = TokenAt sw s (t .kind) (t .span .start) (t .span .stop)
 
 -- what the code's token is the first of
 abbrev pub beginsAt : Switches → List ℕ → CT.Token → Begins
-beginsAt sw s t = begins (spanOf (tokenAt sw s (t .start) (t .stop))) (formAt sw s (t .start))
+beginsAt sw s t = begins (spanOf (tokenAt sw s (t .span .start) (t .span .stop))) (formAt sw s (t .span .start))
 
 -- a scalar's own words, as the code carries them
 unfoldable pub leafOf : Scalar → Words
-leafOf s = record { kind = scalarNumber s; a = getD (scalarWords s) 0 0; b = getD (scalarWords s) 1 0; c = getD (scalarWords s) 2 0 }
+leafOf s = record { kind = scalarNumber s; low = getD (scalarWords s) 0 0; high = getD (scalarWords s) 1 0; extra = getD (scalarWords s) 2 0 }
+
+-- the words of a value that its kind alone says
+abbrev pub plainWords : (kind : ℕ) → Words
+plainWords kind = record { kind = kind; low = 0; high = 0; extra = 0 }
 
 -- the token from `start` to `stop` is a scalar with these words
 pub record LeafIs (sw : Switches) (s : List ℕ) (start stop : ℕ) (leaf : Words) : Type 0 where

@@ -10,13 +10,15 @@ use lib.Dec.{eqb, leb}
 use lib.ListN.{length, getD, take, drop}
 use lib.Seq.{sets}
 use Rattle.text.specs.declared.switches.Switches.{Switches}
+use Rattle.text.specs.Refusal.{refusal}
 use Rattle.lexer.specs.declared.item.TokenKind.{TokenKind}
 use Rattle.lexer.specs.Token.{tokensFrom, tokenContent}
 use Rattle.reader.specs.declared.tree.Kind.{Kind}
 use Rattle.reader.specs.declared.tree.Limits.{Limits}
 use Rattle.reader.specs.declared.tree.Rules.{Rules}
 use Rattle.text.specs.declared.span.Span as CS
-use Rattle.reader.specs.declared.tree.Token as CT
+use Rattle.lexer.specs.declared.item.Token as CT
+use Rattle.reader.specs.declared.tree.SpanWords.{SpanWords}
 use Rattle.reader.specs.declared.tree.Label as CL
 use Rattle.reader.specs.declared.tree.Spot.{Spot}
 use Rattle.reader.specs.declared.tree.Due.{Due}
@@ -26,7 +28,8 @@ use Rattle.reader.specs.declared.items.Item.{Item}
 use Rattle.reader.specs.declared.items.Item.the-variants as I
 use Rattle.reader.specs.declared.values.Answer.{Answer}
 use Rattle.reader.specs.declared.values.Answer.the-variants as A
-use Rattle.reader.specs.Tree.{Span, Tree, branch, Forest, size, headOf, rows, kindNumber}
+use Rattle.reader.specs.Tree.{Span, Tree, branch, Forest, size, headOf, rows, kindNumber, nodeWords}
+use Rattle.reader.specs.Reading.{maxText, maxNodes, wordOf}
 use Rattle.reader.specs.Syntax.{Label, label, Frame, frame, Slot, first, more, value, inside, Config, config, Begins, begins, spanOf, isObject, headBy, ended, valueStep, Outcome, refused, afterStep, run, holds}
 use Rattle.reader.specs.Internal.Tokens.{formAt, tokenAt, TokenAt}
 
@@ -40,49 +43,55 @@ spanAt a e = cond (eqb e 0) none (some (record { start = a; stop = e }))
 unfoldable pub labelOf : CL.Label → Label
 labelOf p = label (p .start) (spanAt (p .key .start) (p .key .stop)) (spanAt (p .name .start) (p .name .stop))
 
--- no span but 0, 0 ends at 0, and none lies past the longest text
-pub record Sane (p : CL.Label) : Type 0 where
+-- no span of a label but 0, 0 ends at 0
+pub record SpansApart (p : CL.Label) : Type 0 where
   pub keys : p .key .stop ≡ 0 → p .key .start ≡ 0
   pub names : p .name .stop ≡ 0 → p .name .start ≡ 0
-  pub start-low : p .start ≤ 65536
-  pub key-low : p .key .start ≤ 65536
-  pub key-stop-low : p .key .stop ≤ 65536
-  pub name-low : p .name .start ≤ 65536
-  pub name-stop-low : p .name .stop ≤ 65536
+
+-- a span of a text that is not too long
+pub record Short (span : CS.Span) : Type 0 where
+  pub start-low : span .start ≤ maxText
+  pub stop-low : span .stop ≤ maxText
+
+-- a span as the words of a row
+abbrev pub wordsOf : CS.Span → SpanWords
+wordsOf span = record { start = span .start; stop = span .stop }
 
 -- a value that begins at `start`, with no identifier so far
 abbrev pub freshDue : (any : Bool) (start : ℕ) → CS.Span → Spot → Due
 freshDue any start key spot =
-    record { any = any; fresh = true; label = record { start = start; key = key; name = record { start = 0; stop = 0 } }; spot = spot }
+    record { any = any; fresh = true; label = record { start = start; key = wordsOf key; name = record { start = 0; stop = 0 } }; spot = spot }
 
 -- where a child stands, of the value at this spot
 abbrev pub childSpot : Spot → (node : ℕ) → Spot
 childSpot spot node = record { node = node; depth = spot .depth + 1; parent = spot .node }
 
--- the value in the bracket of an identifier whose name stands from `start` to `stop`
-abbrev pub namedDue : Due → (start stop : ℕ) → Due
-namedDue due start stop =
-    record { any = due .any; fresh = false; label = record { start = due .label .start; key = due .label .key; name = record { start = start; stop = stop } }; spot = due .spot }
+-- the same label with the name of an identifier
+abbrev pub namedLabel : CL.Label → CS.Span → CL.Label
+namedLabel p name = record { start = p .start; key = p .key; name = wordsOf name }
+
+-- the value in the bracket of an identifier with this name
+abbrev pub namedDue : Due → CS.Span → Due
+namedDue due name = record { any = due .any; fresh = false; label = namedLabel (due .label) name; spot = due .spot }
 
 -- a row's words
-abbrev pub rowWords : (kind parent : ℕ) → CL.Label → (stop next a b c : ℕ) → List ℕ
-rowWords kind parent p stop next a b c =
-    kind ∷ parent ∷ p .start ∷ stop ∷ p .key .start ∷ p .key .stop ∷ p .name .start ∷ p .name .stop ∷ next ∷ a ∷ b ∷ c ∷ []
+abbrev pub rowWords : (kind parent : ℕ) → CL.Label → (stop next low high extra : ℕ) → List ℕ
+rowWords kind parent p stop next low high extra =
+    kind ∷ parent ∷ p .start ∷ stop ∷ p .key .start ∷ p .key .stop ∷ p .name .start ∷ p .name .stop ∷ next ∷ low ∷ high ∷ extra ∷ []
 
 -- the row of a value that was due, with its own words
 abbrev pub rowOf : Due → Words → (stop next : ℕ) → List ℕ
-rowOf due w stop next = rowWords (w .kind) (due .spot .parent) (due .label) stop next (w .a) (w .b) (w .c)
+rowOf due w stop next = rowWords (w .kind) (due .spot .parent) (due .label) stop next (w .low) (w .high) (w .extra)
 
 -- a container's own words
 abbrev pub branchWords : Kind → (children : ℕ) → Words
-branchWords kind children = record { kind = kindNumber kind; a = children; b = 0; c = 0 }
+branchWords kind children = record { kind = kindNumber kind; low = children; high = 0; extra = 0 }
 
 -- room for the row of a value that was due, and its numbers fit into words
 pub record RowRoom (tab : List ℕ) (due : Due) (stop next : ℕ) : Type 0 where
-  pub row : 12 * due .spot .node + 12 ≤ length tab
-  pub label : Sane (due .label)
-  pub stop-low : stop ≤ 65536
-  pub next-low : next ≤ 65536
+  pub row : nodeWords * due .spot .node + nodeWords ≤ length tab
+  pub stop-low : stop ≤ maxText
+  pub next-low : next ≤ maxNodes
 
 -- ---- runs
 
@@ -119,15 +128,15 @@ pub record KeyAt (sw : Switches) (s : List ℕ) (a e : ℕ) (w : List ℕ) : Typ
 
 -- the row of node x, before m, says a key with the content w
 pub record Link (sw : Switches) (s tab : List ℕ) (x m : ℕ) (w : List ℕ) : Type 0 where
-  pub row : 12 * x + 12 ≤ length tab
-  pub later : x < getD tab (12 * x + 8) 0
-  pub below : getD tab (12 * x + 8) 0 ≤ m
-  pub key : KeyAt sw s (getD tab (12 * x + 4) 0) (getD tab (12 * x + 5) 0) w
+  pub row : nodeWords * x + nodeWords ≤ length tab
+  pub later : x < wordOf tab x 8
+  pub below : wordOf tab x 8 ≤ m
+  pub key : KeyAt sw s (wordOf tab x 4) (wordOf tab x 5) w
 
 -- the nodes from x to m, side by side, have keys with these contents
 abbrev pub Chain : Switches → List ℕ → List ℕ → ℕ → ℕ → List (List ℕ) → Type 0
 Chain sw s tab x m [] = x ≡ m
-Chain sw s tab x m (w ∷ ks) = Link sw s tab x m w × Chain sw s tab (getD tab (12 * x + 8) 0) m ks
+Chain sw s tab x m (w ∷ ks) = Link sw s tab x m w × Chain sw s tab (wordOf tab x 8) m ks
 
 -- the nodes from x to m, side by side, have keys
 pub record Chained (sw : Switches) (s tab : List ℕ) (x m : ℕ) : Type 0 where
@@ -160,15 +169,15 @@ pub record Known (sw : Switches) (s : List ℕ) (kind : Kind) (tab : List ℕ) (
 -- what a reader of an item is handed
 pub record Look (sw : Switches) (s : List ℕ) (kind : Kind) (tab : List ℕ) (c : Children) (from : ℕ) : Type 0 where
   pub inside : from ≤ length s
-  pub short : length s ≤ 65536
+  pub short : length s ≤ maxText
   pub chained : isObject kind ≡ true → Chained sw s tab (c .first) (c .next)
 
 -- a child's first token comes, with its key from a to b
 pub record Valued (sw : Switches) (s : List ℕ) (kind : Kind) (tab : List ℕ) (i x m z : ℕ) (k : TokenKind) (start stop a b : ℕ) : Type 0 where
   pub token : TokenAt sw s k start stop
   pub ahead : i ≤ start
-  pub sane : b ≡ 0 → a ≡ 0
-  pub small : (a ≤ 65536) × (b ≤ 65536)
+  pub apart : b ≡ 0 → a ≡ 0
+  pub short : (a ≤ maxText) × (b ≤ maxText)
   pub content : List ℕ
   pub key : isObject kind ≡ true → KeyAt sw s a b content
   pub keys : List (List ℕ) → List (List ℕ)
@@ -190,9 +199,9 @@ pub record Refuses (sw : Switches) (s : List ℕ) (kind : Kind) (tab : List ℕ)
 
 -- `Valued`, `Ends` or `Refuses`, by the code's answer
 abbrev pub ItemIs : Switches → List ℕ → Kind → List ℕ → (i x m z : ℕ) → Item → Type 0
-ItemIs sw s kind tab i x m z (I.Value t key) = Valued sw s kind tab i x m z (t .kind) (t .start) (t .stop) (key .start) (key .stop)
+ItemIs sw s kind tab i x m z (I.Value t key) = Valued sw s kind tab i x m z (t .kind) (t .span .start) (t .span .stop) (key .start) (key .stop)
 ItemIs sw s kind tab i x m z (I.Last j) = Ends sw s kind tab i x m z j
-ItemIs sw s kind tab i x m z (I.Wrong f) = Refuses sw s kind tab i x m z (f .number) (f .place)
+ItemIs sw s kind tab i x m z (I.Refused f) = Refuses sw s kind tab i x m z (f .number) (f .place)
 
 -- the same as a record
 pub record ItemAt (sw : Switches) (s : List ℕ) (kind : Kind) (tab : List ℕ) (c : Children) (i : ℕ) (r : Item) : Type 0 where
@@ -206,22 +215,22 @@ pub record ElementAt (sw : Switches) (s : List ℕ) (kind : Kind) (z i : ℕ) (r
 
 -- room for the nodes up to the limit
 pub record Roomy (limits : Limits) (tab : List ℕ) : Type 0 where
-  pub room : 12 * limits .nodes ≤ length tab
-  pub small : limits .nodes ≤ 4096
+  pub room : nodeWords * limits .nodes ≤ length tab
+  pub small : limits .nodes ≤ maxNodes
 
 -- what a reader of a value is handed: the table has room, for the value's own node too if it has been counted
 pub record Ready (limits : Limits) (tab : List ℕ) (due : Due) : Type 0 where
   pub table : Roomy limits tab
   pub counted : due .fresh ≡ false → due .spot .node < limits .nodes
   pub below : due .spot .node ≤ limits .nodes
-  pub label : Sane (due .label)
+  pub label : SpansApart (due .label)
   pub unnamed : due .fresh ≡ true → due .label .name .stop ≡ 0
 
 -- a token's place in a text that is not too long
 pub record Placed (s : List ℕ) (t : CT.Token) : Type 0 where
-  pub ordered : t .start < t .stop
-  pub inside : t .stop ≤ length s
-  pub short : length s ≤ 65536
+  pub ordered : t .span .start < t .span .stop
+  pub inside : t .span .stop ≤ length s
+  pub short : length s ≤ maxText
 
 -- a value that is due has no node left
 abbrev pub isFull : Limits → Due → Bool
@@ -230,13 +239,13 @@ isFull limits due = due .fresh && leb (limits .nodes) (due .spot .node)
 -- a value that holds no others, by its token: 7 where a container is due, 10
 unfoldable pub leafAnswer : Limits → Due → CT.Token → Answer
 leafAnswer limits due t =
-    cond (due .any) (cond (isFull limits due) (A.Refused (record { number = 10; place = t .start })) (A.Done (t .stop) (due .spot .node + 1)))
-    (A.Refused (record { number = 7; place = t .start }))
+    cond (due .any) (cond (isFull limits due) (A.Refused (refusal 10 (t .span .start))) (A.Done (t .span .stop) (due .spot .node + 1)))
+    (A.Refused (refusal 7 (t .span .start)))
 
 -- the table then
 unfoldable pub leafTable : Limits → Due → CT.Token → Words → List ℕ → List ℕ
 leafTable limits due t w tab =
-    cond (due .any) (cond (isFull limits due) tab (sets tab (12 * due .spot .node) (rowOf due w (t .stop) (due .spot .node + 1)))) tab
+    cond (due .any) (cond (isFull limits due) tab (sets tab (nodeWords * due .spot .node) (rowOf due w (t .span .stop) (due .spot .node + 1)))) tab
 
 -- a value with the label l was read up to j, and its identifier's bracket is still due if it has one
 pub record Took (sw : Switches) (limits : Limits) (s : List ℕ) (ω : List Frame → Outcome) (l : Label) (o d parent n : ℕ) (tin tout : List ℕ) (j m : ℕ) : Type 0 where
@@ -248,22 +257,23 @@ pub record Took (sw : Switches) (limits : Limits) (s : List ℕ) (ω : List Fram
   pub below : m ≤ limits .nodes
   pub ahead : o < j
   pub inside : j ≤ length s
-  pub wrote : tout ≡ sets tin (12 * n) (rows parent n tree)
+  pub wrote : tout ≡ sets tin (nodeWords * n) (rows parent n tree)
   pub ran : (stack : List Frame) → length stack ≡ d → ω stack ≡ runFrom sw limits s j (ended stack m (l .name) tree)
 
--- the machine refuses
-pub record Stops (ω : List Frame → Outcome) (d number place : ℕ) : Type 0 where
+-- the machine refuses, and the words of the nodes before n are as they were
+pub record Stops (ω : List Frame → Outcome) (d n : ℕ) (tin tout : List ℕ) (number place : ℕ) : Type 0 where
   pub ran : (stack : List Frame) → length stack ≡ d → ω stack ≡ refused number place
+  pub kept : (i : ℕ) → i < nodeWords * n → getD tout i 0 ≡ getD tin i 0
 
 -- `Took` or `Stops`, by the code's answer
 abbrev pub RanIs : Switches → Limits → List ℕ → (List Frame → Outcome) → Label → (o d parent n : ℕ) (tin tout : List ℕ) → Answer → Type 0
 RanIs sw limits s ω l o d parent n tin tout (A.Done j m) = Took sw limits s ω l o d parent n tin tout j m
-RanIs sw limits s ω l o d parent n tin tout (A.Refused f) = Stops ω d (f .number) (f .place)
+RanIs sw limits s ω l o d parent n tin tout (A.Refused f) = Stops ω d n tin tout (f .number) (f .place)
 
 -- what the text comes to where a value is due, and its token begins b
 abbrev pub openedBy : Rules → List ℕ → Due → CT.Token → Begins → List Frame → Outcome
-openedBy rules s due t b = opened (rules .sw) (rules .limits) s (t .start) (t .stop) (due .fresh) (due .any) (labelOf (due .label)) (due .spot .node) b
+openedBy rules s due t b = opened (rules .sw) (rules .limits) s (t .span .start) (t .span .stop) (due .fresh) (due .any) (labelOf (due .label)) (due .spot .node) b
 
 -- the value that is due was read, or refused, from a token that begins b
 pub record ReadAs (rules : Rules) (s : List ℕ) (due : Due) (t : CT.Token) (b : Begins) (tin tout : List ℕ) (r : Answer) : Type 0 where
-  pub is : RanIs (rules .sw) (rules .limits) s (openedBy rules s due t b) (labelOf (due .label)) (t .start) (due .spot .depth) (due .spot .parent) (due .spot .node) tin tout r
+  pub is : RanIs (rules .sw) (rules .limits) s (openedBy rules s due t b) (labelOf (due .label)) (t .span .start) (due .spot .depth) (due .spot .parent) (due .spot .node) tin tout r

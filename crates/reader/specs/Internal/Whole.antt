@@ -6,6 +6,7 @@ use mathlib.Core.Bool.{Bool}
 use mathlib.Core.List.{List}
 use lib.Seq.{sets}
 use Rattle.text.specs.declared.switches.Switches.{Switches}
+use Rattle.text.specs.Refusal.{refusal}
 use Rattle.lexer.specs.declared.item.Next.{Next}
 use Rattle.lexer.specs.declared.item.Next.the-variants as N
 use Rattle.lexer.specs.Token.{tokens, tokensFrom}
@@ -20,9 +21,9 @@ use Rattle.reader.specs.Reading.{outcome}
 
 -- a value was read from `start` to `stop`: what comes next must be the text's end
 unfoldable pub aloneOf : (start stop nodes : ℕ) → Next → Whole
-aloneOf start stop nodes (N.Token kind a b) = W.Refused (record { number = 7; place = a })
+aloneOf start stop nodes (N.Token t) = W.Refused (refusal 7 (t .span .start))
 aloneOf start stop nodes (N.End place) = W.Done start stop nodes
-aloneOf start stop nodes (N.Fault number place) = W.Refused (record { number = number; place = place })
+aloneOf start stop nodes (N.Refused f) = W.Refused f
 
 -- the same by the text
 abbrev pub aloneAt : Switches → List ℕ → (start stop nodes : ℕ) → Whole

@@ -12,8 +12,6 @@ use Rattle.lexer.proofs.item.next_token.Reads as reads
 use Rattle.lexer.proofs.item.next_token.Lts as lts
 use Rattle.lexer.proofs.item.item_at.Reads as item-at-reads
 
-
-
 abbrev Inv-loop : tie.InvT-loop
 Inv-loop sw text at i₀ i = tokensFrom sw text at ≡ tokensFrom sw text i
 

@@ -6,23 +6,25 @@ use Rattle.reader.proofs.begin.bits_of.Tie as tie
 use Rattle.reader.proofs.begin.bits_of.Reads as reads
 use Rattle.reader.proofs.begin.bits_of.Lts as lts
 
-sub-k : tie.Need-sub-k
-sub-k c = rw (over (c .before .args .z) (c .before .fits .z) (c .if1 .taken)) (record { sfits = c .before .fits .z .sfits })
 
-cast-k : tie.Need-cast-k
-cast-k c = let f = c .before .fits .z .sfits in rw (over-read (c .before .args .z) (c .before .fits .z) (c .if1 .taken)) (tt, omega arith)
+
+sub-below : tie.Need-sub-below
+sub-below c = rw (over (c .before .args .value) (c .before .fits .value) (c .if1 .taken)) (record { sfits = c .before .fits .value .sfits })
+
+cast-below : tie.Need-cast-below
+cast-below c = let f = c .before .fits .value .sfits in rw (over-read (c .before .args .value) (c .before .fits .value) (c .if1 .taken)) (tt, omega arith)
 
 sub-result : tie.Need-sub-result
-sub-result c = let f = c .before .fits .z .sfits in rw (over-read (c .before .args .z) (c .before .fits .z) (c .if1 .taken)) (omega arith)
+sub-result c = let f = c .before .fits .value .sfits in rw (over-read (c .before .args .value) (c .before .fits .value) (c .if1 .taken)) (omega arith)
 
 returns : tie.Need-returns
-returns c = rw (over-read (c .before .args .z) (c .before .fits .z) (c .if1 .taken)) (neg-bits (c .before .args .z) (c .before .fits .z) (c .if1 .taken))
+returns c = rw (over-read (c .before .args .value) (c .before .fits .value) (c .if1 .taken)) (neg-bits (c .before .args .value) (c .before .fits .value) (c .if1 .taken))
 
 cast-result : tie.Need-cast-result
-cast-result c = let f = c .before .fits .z .sfits in rw (is-pos (c .before .args .z) (c .before .fits .z) (c .if1 .left)) (tt, omega arith)
+cast-result c = let f = c .before .fits .value .sfits in rw (is-pos (c .before .args .value) (c .before .fits .value) (c .if1 .left)) (tt, omega arith)
 
 returns-2 : tie.Need-returns-2
-returns-2 c = pos-bits (c .before .args .z) (c .before .fits .z) (c .if1 .left)
+returns-2 c = pos-bits (c .before .args .value) (c .before .fits .value) (c .if1 .left)
 
 pub bits-of-spec : {M : Type 1} → statement M
-bits-of-spec = tie.close (tie.spec sub-k cast-k sub-result returns cast-result returns-2)
+bits-of-spec = tie.close (tie.spec sub-below cast-below sub-result returns cast-result returns-2)

@@ -10,6 +10,8 @@ use Rattle.reader.proofs.begin.integer_leaf.Reads as reads
 use Rattle.reader.proofs.begin.integer_leaf.Lts as lts
 use Rattle.reader.proofs.begin.bits_of.Reads as bits-of-reads
 
+
+
 bits-of-requires : tie.Need-bits-of-requires
 bits-of-requires c κs = search needs
 
@@ -20,7 +22,7 @@ cast-t6 : tie.Need-cast-t6
 cast-t6 c = omega arith
 
 returns : tie.Need-returns
-returns c = integer-words (c .bits-of .result) (c .before .args .z) (c .bits-of .ensures ∙ ap twosComplement (toZ-ofZ (c .before .fits .z)))
+returns c = integer-words (c .bits-of .result) (c .before .args .value) (c .bits-of .ensures ∙ ap twosComplement (toZ-ofZ (c .before .fits .value)))
 
 pub integer-leaf-spec : {M : Type 1} → statement M
 integer-leaf-spec = tie.close (tie.spec bits-of-requires cast-t4 cast-t6 returns)

@@ -1,5 +1,6 @@
 use native.Mathlib.Omega.{arith}
-use mathlib.Core.Path.{sym, _∙_}
+use mathlib.Core.Path.{sym, ap, _∙_}
+use Rattle.reader.specs.declared.tree.Begin.the-variants as B
 use Rattle.reader.specs.Tree.{scalarNumber, scalarWords}
 use Rattle.reader.specs.Internal.Tokens.{wordBegin, leafOf}
 use borrow.Author.Needs.{needs}
@@ -8,7 +9,10 @@ use Rattle.reader.proofs.begin.word_begin.Tie as tie
 use Rattle.reader.proofs.begin.word_begin.Reads as reads
 use Rattle.reader.proofs.begin.word_begin.Lts as lts
 use Rattle.reader.proofs.begin.opens_with_capital.Reads as opens-with-capital-reads
+use Rattle.reader.proofs.begin.plain_leaf.Reads as plain-leaf-reads
 use Rattle.text.proofs.bytes.same_bytes.Reads as same-bytes-reads
+
+
 
 slice-aggregate-same-bytes : tie.Need-slice-aggregate-same-bytes
 slice-aggregate-same-bytes c = omega arith
@@ -16,9 +20,12 @@ slice-aggregate-same-bytes c = omega arith
 same-bytes-requires : tie.Need-same-bytes-requires
 same-bytes-requires c κs = search needs
 
+plain-leaf-requires : tie.Need-plain-leaf-requires
+plain-leaf-requires c κs = search needs
+
 returns : tie.Need-returns
 unfolding wordBegin leafOf scalarNumber scalarWords
-returns c = rw (sym (c .before .same-bytes .ensures) ∙ c .if1 .taken)
+returns c = rw (sym (c .before .before .same-bytes .ensures) ∙ c .before .if1 .taken) (ap B.Scalar (c .plain-leaf .ensures))
 
 slice-aggregate-same-bytes-2 : tie.Need-slice-aggregate-same-bytes-2
 slice-aggregate-same-bytes-2 c = omega arith
@@ -26,9 +33,12 @@ slice-aggregate-same-bytes-2 c = omega arith
 same-bytes-requires-2 : tie.Need-same-bytes-requires-2
 same-bytes-requires-2 c κs = search needs
 
+plain-leaf-requires-2 : tie.Need-plain-leaf-requires-2
+plain-leaf-requires-2 c κs = search needs
+
 returns-2 : tie.Need-returns-2
 unfolding wordBegin leafOf scalarNumber scalarWords
-returns-2 c = rw (sym (c .before .before .before .before .same-bytes .ensures) ∙ c .before .before .before .if1 .left, sym (c .before .same-bytes2 .ensures) ∙ c .if2 .taken)
+returns-2 c = rw (sym (c .before .before .before .before .before .same-bytes .ensures) ∙ c .before .before .before .before .if1 .left, sym (c .before .before .same-bytes2 .ensures) ∙ c .before .if2 .taken) (ap B.Scalar (c .plain-leaf2 .ensures))
 
 slice-aggregate-same-bytes-3 : tie.Need-slice-aggregate-same-bytes-3
 slice-aggregate-same-bytes-3 c = omega arith
@@ -36,9 +46,12 @@ slice-aggregate-same-bytes-3 c = omega arith
 same-bytes-requires-3 : tie.Need-same-bytes-requires-3
 same-bytes-requires-3 c κs = search needs
 
+plain-leaf-requires-3 : tie.Need-plain-leaf-requires-3
+plain-leaf-requires-3 c κs = search needs
+
 returns-3 : tie.Need-returns-3
 unfolding wordBegin leafOf scalarNumber scalarWords
-returns-3 c = rw (sym (c .before .before .before .before .before .before .before .same-bytes .ensures) ∙ c .before .before .before .before .before .before .if1 .left, sym (c .before .before .before .before .same-bytes2 .ensures) ∙ c .before .before .before .if2 .left, sym (c .before .same-bytes3 .ensures) ∙ c .if3 .taken)
+returns-3 c = rw (sym (c .before .before .before .before .before .before .before .before .same-bytes .ensures) ∙ c .before .before .before .before .before .before .before .if1 .left, sym (c .before .before .before .before .before .same-bytes2 .ensures) ∙ c .before .before .before .before .if2 .left, sym (c .before .before .same-bytes3 .ensures) ∙ c .before .if3 .taken) (ap B.Scalar (c .plain-leaf3 .ensures))
 
 opens-with-capital-requires : tie.Need-opens-with-capital-requires
 opens-with-capital-requires c κs = search needs
@@ -57,12 +70,15 @@ word-begin-spec =
     (tie.spec
     slice-aggregate-same-bytes
     same-bytes-requires
+    plain-leaf-requires
     returns
     slice-aggregate-same-bytes-2
     same-bytes-requires-2
+    plain-leaf-requires-2
     returns-2
     slice-aggregate-same-bytes-3
     same-bytes-requires-3
+    plain-leaf-requires-3
     returns-3
     opens-with-capital-requires
     returns-4

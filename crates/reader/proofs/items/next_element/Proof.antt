@@ -14,6 +14,8 @@ use Rattle.reader.proofs.items.one_mark.Reads as one-mark-reads
 use Rattle.reader.proofs.items.opens_empty.Reads as opens-empty-reads
 use Rattle.reader.proofs.items.token_from.Reads as token-from-reads
 
+
+
 closer-of-requires : tie.Need-closer-of-requires
 closer-of-requires c κs = search needs
 
@@ -42,10 +44,10 @@ enum-known-refusal : tie.Need-enum-known-refusal
 enum-known-refusal c = search needs
 
 returns-2 : tie.Need-returns-2
-returns-2 c = record { is = λ tab x m. item-lone (c .before .before .before .before .before .before .before .before .before .before .before .before .before .before .args .sw) (c .before .before .before .before .before .before .before .before .before .before .before .before .before .before .args .text .now) (c .before .before .before .before .before .before .before .before .before .before .before .before .before .before .args .kind) tab (c .before .before .before .before .before .before .before .before .before .before .before .before .before .before .args .from) x m (c .before .before .before .before .before .before .before .before .before .before .before .before .before .before .args .count) _ _ _ (ahead-token (c .before .before .before .before .before .before .before .before .before .before .before .before .before .before .args .sw) (c .before .before .before .before .before .before .before .before .before .before .before .before .before .before .args .text .now) (c .before .before .before .before .before .before .before .before .before .before .before .before .before .before .args .from) _ (c .before .before .before .before .before .before .before .before .before .before .before .before .before .before .pre .0) (sym (c .before .before .before .before .before .before .before .before .before .before .before .token-from .ensures) ∙ c .before .before .before .before .before .before .before .before .before .token .given .1)) (ap (markIs _) (sym (c .before .before .before .before .before .before .before .before .before .before .before .before .closer-of .ensures)) ∙ sym (c .before .before .before .before .before .before .before .is-mark .ensures) ∙ c .before .before .before .before .before .before .if1 .left) (sym (c .before .before .before .before .before .opens-empty .ensures) ∙ c .before .before .before .before .if2 .taken) _ (told-at ((ahead-token (c .before .before .before .before .before .before .before .before .before .before .before .before .before .before .args .sw) (c .before .before .before .before .before .before .before .before .before .before .before .before .before .before .args .text .now) (c .before .before .before .before .before .before .before .before .before .before .before .before .before .before .args .from) _ (c .before .before .before .before .before .before .before .before .before .before .before .before .before .before .pre .0) (sym (c .before .before .before .before .before .before .before .before .before .before .before .token-from .ensures) ∙ c .before .before .before .before .before .before .before .before .before .token .given .1)) .token .inside) (c .before .stop .given .1) (c .before .before .before .one-mark .ensures ∙ ap (onlyAt (c .before .before .before .before .before .before .before .before .before .before .before .before .before .before .args .sw) (c .before .before .before .before .before .before .before .before .before .before .before .before .before .before .args .text .now) (c .before .before .before .before .before .before .before .before .before .token .given .0 .0 .stop)) (c .before .before .before .before .before .before .before .before .before .before .before .before .closer-of .ensures))) }
+returns-2 c = record { is = λ tab x m. item-lone (c .before .before .before .before .before .before .before .before .before .before .before .before .before .before .args .sw) (c .before .before .before .before .before .before .before .before .before .before .before .before .before .before .args .text .now) (c .before .before .before .before .before .before .before .before .before .before .before .before .before .before .args .kind) tab (c .before .before .before .before .before .before .before .before .before .before .before .before .before .before .args .from) x m (c .before .before .before .before .before .before .before .before .before .before .before .before .before .before .args .count) _ _ _ (ahead-token (c .before .before .before .before .before .before .before .before .before .before .before .before .before .before .args .sw) (c .before .before .before .before .before .before .before .before .before .before .before .before .before .before .args .text .now) (c .before .before .before .before .before .before .before .before .before .before .before .before .before .before .args .from) _ (c .before .before .before .before .before .before .before .before .before .before .before .before .before .before .pre .0) (sym (c .before .before .before .before .before .before .before .before .before .before .before .token-from .ensures) ∙ c .before .before .before .before .before .before .before .before .before .token .given .1)) (ap (markIs _) (sym (c .before .before .before .before .before .before .before .before .before .before .before .before .closer-of .ensures)) ∙ sym (c .before .before .before .before .before .before .before .is-mark .ensures) ∙ c .before .before .before .before .before .before .if1 .left) (sym (c .before .before .before .before .before .opens-empty .ensures) ∙ c .before .before .before .before .if2 .taken) _ (told-at ((ahead-token (c .before .before .before .before .before .before .before .before .before .before .before .before .before .before .args .sw) (c .before .before .before .before .before .before .before .before .before .before .before .before .before .before .args .text .now) (c .before .before .before .before .before .before .before .before .before .before .before .before .before .before .args .from) _ (c .before .before .before .before .before .before .before .before .before .before .before .before .before .before .pre .0) (sym (c .before .before .before .before .before .before .before .before .before .before .before .token-from .ensures) ∙ c .before .before .before .before .before .before .before .before .before .token .given .1)) .token .inside) (c .before .stop .given .1) (c .before .before .before .one-mark .ensures ∙ ap (onlyAt (c .before .before .before .before .before .before .before .before .before .before .before .before .before .before .args .sw) (c .before .before .before .before .before .before .before .before .before .before .before .before .before .before .args .text .now) (c .before .before .before .before .before .before .before .before .before .token .given .0 .0 .span .stop)) (c .before .before .before .before .before .before .before .before .before .before .before .before .closer-of .ensures))) }
 
 returns-3 : tie.Need-returns-3
-returns-3 c = record { is = λ tab x m. item-lone-not (c .before .before .before .before .before .before .before .before .before .before .before .before .before .before .args .sw) (c .before .before .before .before .before .before .before .before .before .before .before .before .before .before .args .text .now) (c .before .before .before .before .before .before .before .before .before .before .before .before .before .before .args .kind) tab (c .before .before .before .before .before .before .before .before .before .before .before .before .before .before .args .from) x m (c .before .before .before .before .before .before .before .before .before .before .before .before .before .before .args .count) _ _ _ (ahead-token (c .before .before .before .before .before .before .before .before .before .before .before .before .before .before .args .sw) (c .before .before .before .before .before .before .before .before .before .before .before .before .before .before .args .text .now) (c .before .before .before .before .before .before .before .before .before .before .before .before .before .before .args .from) _ (c .before .before .before .before .before .before .before .before .before .before .before .before .before .before .pre .0) (sym (c .before .before .before .before .before .before .before .before .before .before .before .token-from .ensures) ∙ c .before .before .before .before .before .before .before .before .before .token .given .1)) (ap (markIs _) (sym (c .before .before .before .before .before .before .before .before .before .before .before .before .closer-of .ensures)) ∙ sym (c .before .before .before .before .before .before .before .is-mark .ensures) ∙ c .before .before .before .before .before .before .if1 .left) (sym (c .before .before .before .before .before .opens-empty .ensures) ∙ c .before .before .before .before .if2 .taken) _ _ (told-not ((ahead-token (c .before .before .before .before .before .before .before .before .before .before .before .before .before .before .args .sw) (c .before .before .before .before .before .before .before .before .before .before .before .before .before .before .args .text .now) (c .before .before .before .before .before .before .before .before .before .before .before .before .before .before .args .from) _ (c .before .before .before .before .before .before .before .before .before .before .before .before .before .before .pre .0) (sym (c .before .before .before .before .before .before .before .before .before .before .before .token-from .ensures) ∙ c .before .before .before .before .before .before .before .before .before .token .given .1)) .token .inside) (c .before .refusal .given .1) (c .before .before .before .one-mark .ensures ∙ ap (onlyAt (c .before .before .before .before .before .before .before .before .before .before .before .before .before .before .args .sw) (c .before .before .before .before .before .before .before .before .before .before .before .before .before .before .args .text .now) (c .before .before .before .before .before .before .before .before .before .token .given .0 .0 .stop)) (c .before .before .before .before .before .before .before .before .before .before .before .before .closer-of .ensures))) }
+returns-3 c = record { is = λ tab x m. item-lone-not (c .before .before .before .before .before .before .before .before .before .before .before .before .before .before .args .sw) (c .before .before .before .before .before .before .before .before .before .before .before .before .before .before .args .text .now) (c .before .before .before .before .before .before .before .before .before .before .before .before .before .before .args .kind) tab (c .before .before .before .before .before .before .before .before .before .before .before .before .before .before .args .from) x m (c .before .before .before .before .before .before .before .before .before .before .before .before .before .before .args .count) _ _ _ (ahead-token (c .before .before .before .before .before .before .before .before .before .before .before .before .before .before .args .sw) (c .before .before .before .before .before .before .before .before .before .before .before .before .before .before .args .text .now) (c .before .before .before .before .before .before .before .before .before .before .before .before .before .before .args .from) _ (c .before .before .before .before .before .before .before .before .before .before .before .before .before .before .pre .0) (sym (c .before .before .before .before .before .before .before .before .before .before .before .token-from .ensures) ∙ c .before .before .before .before .before .before .before .before .before .token .given .1)) (ap (markIs _) (sym (c .before .before .before .before .before .before .before .before .before .before .before .before .closer-of .ensures)) ∙ sym (c .before .before .before .before .before .before .before .is-mark .ensures) ∙ c .before .before .before .before .before .before .if1 .left) (sym (c .before .before .before .before .before .opens-empty .ensures) ∙ c .before .before .before .before .if2 .taken) _ _ (told-not ((ahead-token (c .before .before .before .before .before .before .before .before .before .before .before .before .before .before .args .sw) (c .before .before .before .before .before .before .before .before .before .before .before .before .before .before .args .text .now) (c .before .before .before .before .before .before .before .before .before .before .before .before .before .before .args .from) _ (c .before .before .before .before .before .before .before .before .before .before .before .before .before .before .pre .0) (sym (c .before .before .before .before .before .before .before .before .before .before .before .token-from .ensures) ∙ c .before .before .before .before .before .before .before .before .before .token .given .1)) .token .inside) (c .before .refusal .given .1) (c .before .before .before .one-mark .ensures ∙ ap (onlyAt (c .before .before .before .before .before .before .before .before .before .before .before .before .before .before .args .sw) (c .before .before .before .before .before .before .before .before .before .before .before .before .before .before .args .text .now) (c .before .before .before .before .before .before .before .before .before .token .given .0 .0 .span .stop)) (c .before .before .before .before .before .before .before .before .before .before .before .before .closer-of .ensures))) }
 
 enum-known-refusal-2 : tie.Need-enum-known-refusal-2
 enum-known-refusal-2 c = search needs

@@ -20,6 +20,7 @@ use Rattle.reader.proofs.keys.find_key.Reads as find-key-reads
 found-as : {sw : _} {s tab : _} {x m a e : _} {r q : _} → r ≡ q → FoundKey sw s tab x m a e r → FoundKey sw s tab x m a e q
 found-as {sw} {s} {tab} {x} {m} {a} {e} {r} {q} p h = subst (λ (b : Bool). FoundKey sw s tab x m a e b) p h
 
+
 token-from-requires : tie.Need-token-from-requires
 token-from-requires c κs = search needs
 
@@ -36,16 +37,16 @@ is-key-requires : tie.Need-is-key-requires
 is-key-requires c κs = search needs
 
 find-key-requires : tie.Need-find-key-requires
-find-key-requires c κs = (c .before .before .before .before .before .before .before .before .before .before .pre .chained refl, key-here (c .before .before .before .before .before .before .before .before .before .before .args .sw) (c .before .before .before .before .before .before .before .before .before .before .args .text .now) _ _ _ ((ahead-token (c .before .before .before .before .before .before .before .before .before .before .args .sw) (c .before .before .before .before .before .before .before .before .before .before .args .text .now) (c .before .before .before .before .before .before .before .before .before .before .args .from) _ (c .before .before .before .before .before .before .before .before .before .before .pre .inside) (sym (c .before .before .before .before .before .before .before .token-from .ensures) ∙ c .before .before .before .before .before .token .given .1)) .token) (sym (c .before .is-key .ensures) ∙ c .if2 .taken))
+find-key-requires c κs = (c .before .before .before .before .before .before .before .before .before .before .before .pre .chained refl, key-here (c .before .before .before .before .before .before .before .before .before .before .before .args .sw) (c .before .before .before .before .before .before .before .before .before .before .before .args .text .now) _ _ _ ((ahead-token (c .before .before .before .before .before .before .before .before .before .before .before .args .sw) (c .before .before .before .before .before .before .before .before .before .before .before .args .text .now) (c .before .before .before .before .before .before .before .before .before .before .before .args .from) _ (c .before .before .before .before .before .before .before .before .before .before .before .pre .inside) (sym (c .before .before .before .before .before .before .before .before .token-from .ensures) ∙ c .before .before .before .before .before .before .token .given .1)) .token) (sym (c .before .before .is-key .ensures) ∙ c .before .if2 .taken))
 
 returns-2 : tie.Need-returns-2
-returns-2 c = record { is = field-twice (c .before .before .before .before .before .before .before .before .before .before .before .before .args .sw) (c .before .before .before .before .before .before .before .before .before .before .before .before .args .text .now) (c .before .before .before .before .before .before .before .before .before .before .before .before .args .table .now) (c .before .before .before .before .before .before .before .before .before .before .before .before .args .from) (c .before .before .before .before .before .before .before .before .before .before .before .before .args .children .first) (c .before .before .before .before .before .before .before .before .before .before .before .before .args .children .next) _ _ _ (ahead-token (c .before .before .before .before .before .before .before .before .before .before .before .before .args .sw) (c .before .before .before .before .before .before .before .before .before .before .before .before .args .text .now) (c .before .before .before .before .before .before .before .before .before .before .before .before .args .from) _ (c .before .before .before .before .before .before .before .before .before .before .before .before .pre .inside) (sym (c .before .before .before .before .before .before .before .before .before .token-from .ensures) ∙ c .before .before .before .before .before .before .before .token .given .1)) (sym (c .before .before .before .before .before .is-mark .ensures) ∙ c .before .before .before .before .if1 .left) (sym (c .before .before .before .is-key .ensures) ∙ c .before .before .if2 .taken) (found-as (c .if3 .taken) (c .before .find-key .ensures)) (c .before .before .before .before .before .before .before .before .before .before .before .before .args .children .count) }
+returns-2 c = record { is = field-twice (c .before .before .before .before .before .before .before .before .before .before .before .before .before .args .sw) (c .before .before .before .before .before .before .before .before .before .before .before .before .before .args .text .now) (c .before .before .before .before .before .before .before .before .before .before .before .before .before .args .table .now) (c .before .before .before .before .before .before .before .before .before .before .before .before .before .args .from) (c .before .before .before .before .before .before .before .before .before .before .before .before .before .args .children .first) (c .before .before .before .before .before .before .before .before .before .before .before .before .before .args .children .next) _ _ _ (ahead-token (c .before .before .before .before .before .before .before .before .before .before .before .before .before .args .sw) (c .before .before .before .before .before .before .before .before .before .before .before .before .before .args .text .now) (c .before .before .before .before .before .before .before .before .before .before .before .before .before .args .from) _ (c .before .before .before .before .before .before .before .before .before .before .before .before .before .pre .inside) (sym (c .before .before .before .before .before .before .before .before .before .before .token-from .ensures) ∙ c .before .before .before .before .before .before .before .before .token .given .1)) (sym (c .before .before .before .before .before .before .is-mark .ensures) ∙ c .before .before .before .before .before .if1 .left) (sym (c .before .before .before .before .is-key .ensures) ∙ c .before .before .before .if2 .taken) (found-as (c .if3 .taken) (c .before .find-key .ensures)) (c .before .before .before .before .before .before .before .before .before .before .before .before .before .args .children .count) }
 
 after-key-requires : tie.Need-after-key-requires
 after-key-requires c κs = search needs
 
 returns-3 : tie.Need-returns-3
-returns-3 c = record { is = field-key (c .before .before .before .before .before .before .before .before .before .before .before .before .before .args .sw) (c .before .before .before .before .before .before .before .before .before .before .before .before .before .args .text .now) (c .before .before .before .before .before .before .before .before .before .before .before .before .before .args .table .now) (c .before .before .before .before .before .before .before .before .before .before .before .before .before .args .from) (c .before .before .before .before .before .before .before .before .before .before .before .before .before .args .children .first) (c .before .before .before .before .before .before .before .before .before .before .before .before .before .args .children .next) _ _ _ (ahead-token (c .before .before .before .before .before .before .before .before .before .before .before .before .before .args .sw) (c .before .before .before .before .before .before .before .before .before .before .before .before .before .args .text .now) (c .before .before .before .before .before .before .before .before .before .before .before .before .before .args .from) _ (c .before .before .before .before .before .before .before .before .before .before .before .before .before .pre .inside) (sym (c .before .before .before .before .before .before .before .before .before .before .token-from .ensures) ∙ c .before .before .before .before .before .before .before .before .token .given .1)) (sym (c .before .before .before .before .before .before .is-mark .ensures) ∙ c .before .before .before .before .before .if1 .left) (sym (c .before .before .before .before .is-key .ensures) ∙ c .before .before .before .if2 .taken) (c .before .before .before .before .before .before .before .before .before .before .before .before .before .pre .short) (found-as (c .before .if3 .left) (c .before .before .find-key .ensures)) (c .before .before .before .before .before .before .before .before .before .before .before .before .before .args .children .count) (c .after-key .result) (after-is (c .before .before .before .before .before .before .before .before .before .before .before .before .before .args .sw) (c .before .before .before .before .before .before .before .before .before .before .before .before .before .args .text .now) _ ((ahead-token (c .before .before .before .before .before .before .before .before .before .before .before .before .before .args .sw) (c .before .before .before .before .before .before .before .before .before .before .before .before .before .args .text .now) (c .before .before .before .before .before .before .before .before .before .before .before .before .before .args .from) _ (c .before .before .before .before .before .before .before .before .before .before .before .before .before .pre .inside) (sym (c .before .before .before .before .before .before .before .before .before .before .token-from .ensures) ∙ c .before .before .before .before .before .before .before .before .token .given .1)) .token .inside) _ (c .after-key .ensures)) }
+returns-3 c = record { is = field-key (c .before .before .before .before .before .before .before .before .before .before .before .before .before .before .args .sw) (c .before .before .before .before .before .before .before .before .before .before .before .before .before .before .args .text .now) (c .before .before .before .before .before .before .before .before .before .before .before .before .before .before .args .table .now) (c .before .before .before .before .before .before .before .before .before .before .before .before .before .before .args .from) (c .before .before .before .before .before .before .before .before .before .before .before .before .before .before .args .children .first) (c .before .before .before .before .before .before .before .before .before .before .before .before .before .before .args .children .next) _ _ _ (ahead-token (c .before .before .before .before .before .before .before .before .before .before .before .before .before .before .args .sw) (c .before .before .before .before .before .before .before .before .before .before .before .before .before .before .args .text .now) (c .before .before .before .before .before .before .before .before .before .before .before .before .before .before .args .from) _ (c .before .before .before .before .before .before .before .before .before .before .before .before .before .before .pre .inside) (sym (c .before .before .before .before .before .before .before .before .before .before .before .token-from .ensures) ∙ c .before .before .before .before .before .before .before .before .before .token .given .1)) (sym (c .before .before .before .before .before .before .before .is-mark .ensures) ∙ c .before .before .before .before .before .before .if1 .left) (sym (c .before .before .before .before .before .is-key .ensures) ∙ c .before .before .before .before .if2 .taken) (c .before .before .before .before .before .before .before .before .before .before .before .before .before .before .pre .short) (found-as (c .before .if3 .left) (c .before .before .find-key .ensures)) (c .before .before .before .before .before .before .before .before .before .before .before .before .before .before .args .children .count) (c .after-key .result) (after-is (c .before .before .before .before .before .before .before .before .before .before .before .before .before .before .args .sw) (c .before .before .before .before .before .before .before .before .before .before .before .before .before .before .args .text .now) _ ((ahead-token (c .before .before .before .before .before .before .before .before .before .before .before .before .before .before .args .sw) (c .before .before .before .before .before .before .before .before .before .before .before .before .before .before .args .text .now) (c .before .before .before .before .before .before .before .before .before .before .before .before .before .before .args .from) _ (c .before .before .before .before .before .before .before .before .before .before .before .before .before .before .pre .inside) (sym (c .before .before .before .before .before .before .before .before .before .before .before .token-from .ensures) ∙ c .before .before .before .before .before .before .before .before .before .token .given .1)) .token .inside) _ (c .after-key .ensures)) }
 
 enum-known-refusal : tie.Need-enum-known-refusal
 enum-known-refusal c = search needs

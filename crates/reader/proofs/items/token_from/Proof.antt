@@ -8,21 +8,23 @@ use Rattle.reader.proofs.items.token_from.Reads as reads
 use Rattle.reader.proofs.items.token_from.Lts as lts
 use Rattle.lexer.proofs.item.next_token.Reads as next-token-reads
 
+
+
 next-token-requires : tie.Need-next-token-requires
 next-token-requires c κs = search needs
 
-enum-known-kind : tie.Need-enum-known-kind
-enum-known-kind c = search needs
+enum-known-token : tie.Need-enum-known-token
+enum-known-token c = search needs
 
 enum-known-place : tie.Need-enum-known-place
 enum-known-place c = search needs
 
-enum-known-number : tie.Need-enum-known-number
-enum-known-number c = search needs
+enum-known-refusal : tie.Need-enum-known-refusal
+enum-known-refusal c = search needs
 
 returns : tie.Need-returns
 unfolding aheadOf
-returns c = sym (ap aheadOf (sym (c .before .before .before .next-token .ensures) ∙ c .before .kind .given .1))
+returns c = sym (ap aheadOf (sym (c .before .before .before .next-token .ensures) ∙ c .before .token .given .1))
 
 returns-2 : tie.Need-returns-2
 unfolding aheadOf
@@ -30,16 +32,16 @@ returns-2 c = sym (ap aheadOf (sym (c .before .before .before .next-token .ensur
 
 returns-3 : tie.Need-returns-3
 unfolding aheadOf
-returns-3 c = sym (ap aheadOf (sym (c .before .before .before .next-token .ensures) ∙ c .before .number .given .1))
+returns-3 c = sym (ap aheadOf (sym (c .before .before .before .next-token .ensures) ∙ c .before .refusal .given .1))
 
 pub token-from-spec : {M : Type 1} → statement M
 token-from-spec =
     tie.close
     (tie.spec
     next-token-requires
-    enum-known-kind
+    enum-known-token
     enum-known-place
-    enum-known-number
+    enum-known-refusal
     returns
     returns-2
     returns-3)

@@ -1,9 +1,10 @@
 use native.Mathlib.Omega.{arith}
 use mathlib.Core.Path.{refl}
-use Prim.Native.Nat.{ℕ}
+use Prim.Native.Nat.{ℕ, _*_}
 use lib.ListN.{length-replicate}
 use borrow.Author.Tests.{eq-eqb, ne-eqb}
-use Rattle.reader.specs.Reading.{limitsAlone}
+use Rattle.reader.specs.Tree.{nodeWords}
+use Rattle.reader.specs.Reading.{limitsAlone, maxNodes}
 use Rattle.reader.proofs.ReadRun.{tree-is, tree-not, alone-taken, alone-refused}
 use borrow.Author.Needs.{needs}
 use Rattle.reader.proofs.read.one_value.Statement.{statement}
@@ -12,11 +13,13 @@ use Rattle.reader.proofs.read.one_value.Reads as reads
 use Rattle.reader.proofs.read.one_value.Lts as lts
 use Rattle.reader.proofs.read.judge.Reads as judge-reads
 
+
+
 slice-aggregate-judge : tie.Need-slice-aggregate-judge
 slice-aggregate-judge c = omega arith
 
 judge-requires : tie.Need-judge-requires
-judge-requires c κs = let l = length-replicate {A = ℕ} 49152 0 in record { room = omega arith; small = omega arith }
+judge-requires c κs = let l = length-replicate {A = ℕ} (nodeWords * maxNodes) 0 in record { room = omega arith; small = omega arith }
 
 enum-known-start : tie.Need-enum-known-start
 enum-known-start c = search needs

@@ -8,17 +8,19 @@ use Rattle.reader.proofs.read.only_value.Reads as reads
 use Rattle.reader.proofs.read.only_value.Lts as lts
 use Rattle.lexer.proofs.item.next_token.Reads as next-token-reads
 
+
+
 next-token-requires : tie.Need-next-token-requires
 next-token-requires c κs = search needs
 
 enum-told : tie.Need-enum-told
 enum-told c = search needs
 
-enum-known-place : tie.Need-enum-known-place
-enum-known-place c = search needs
+enum-known-token : tie.Need-enum-known-token
+enum-known-token c = search needs
 
-enum-known-number : tie.Need-enum-known-number
-enum-known-number c = search needs
+enum-known-refusal : tie.Need-enum-known-refusal
+enum-known-refusal c = search needs
 
 returns : tie.Need-returns
 unfolding aloneOf
@@ -26,11 +28,11 @@ returns c = sym (ap (aloneOf (c .before .before .before .before .args .start) (c
 
 returns-2 : tie.Need-returns-2
 unfolding aloneOf
-returns-2 c = sym (ap (aloneOf (c .before .before .before .before .before .args .start) (c .before .before .before .before .before .args .stop) (c .before .before .before .before .before .args .nodes)) (sym (c .before .before .before .next-token .ensures) ∙ c .before .place .given .1))
+returns-2 c = sym (ap (aloneOf (c .before .before .before .before .before .args .start) (c .before .before .before .before .before .args .stop) (c .before .before .before .before .before .args .nodes)) (sym (c .before .before .before .next-token .ensures) ∙ c .before .token .given .1))
 
 returns-3 : tie.Need-returns-3
 unfolding aloneOf
-returns-3 c = sym (ap (aloneOf (c .before .before .before .before .before .args .start) (c .before .before .before .before .before .args .stop) (c .before .before .before .before .before .args .nodes)) (sym (c .before .before .before .next-token .ensures) ∙ c .before .number .given .1))
+returns-3 c = sym (ap (aloneOf (c .before .before .before .before .before .args .start) (c .before .before .before .before .before .args .stop) (c .before .before .before .before .before .args .nodes)) (sym (c .before .before .before .next-token .ensures) ∙ c .before .refusal .given .1))
 
 pub only-value-spec : {M : Type 1} → statement M
 only-value-spec =
@@ -38,8 +40,8 @@ only-value-spec =
     (tie.spec
     next-token-requires
     enum-told
-    enum-known-place
-    enum-known-number
+    enum-known-token
+    enum-known-refusal
     returns
     returns-2
     returns-3)

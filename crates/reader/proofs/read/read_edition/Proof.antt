@@ -19,7 +19,6 @@ at-words : (words long nodes : ℕ) → nodes ≡ nodeLimit long → long ≡ wo
 unfolding limitsOf
 at-words words long nodes e l = ap (λ (n : ℕ). record { depth = 32; nodes = n }) (e ∙ ap nodeLimit l)
 
-
 clear-requires : tie.Need-clear-requires
 clear-requires c κs = search needs
 

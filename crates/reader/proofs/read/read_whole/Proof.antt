@@ -14,6 +14,8 @@ use Rattle.reader.proofs.read.only_value.Reads as only-value-reads
 use Rattle.reader.proofs.values.fresh_due.Reads as fresh-due-reads
 use Rattle.reader.proofs.values.read_value.Reads as read-value-reads
 
+
+
 token-from-requires : tie.Need-token-from-requires
 token-from-requires c κs = search needs
 
@@ -21,11 +23,12 @@ enum-known-token : tie.Need-enum-known-token
 enum-known-token c = search needs
 
 fresh-due-requires : tie.Need-fresh-due-requires
-fresh-due-requires c κs = search needs
+fresh-due-requires c κs = let P = (ahead-token (c .before .before .before .before .before .before .args .rules .sw) (c .before .before .before .before .before .before .args .text .now) 0 _ (omega arith) (sym (c .before .before .before .token-from .ensures) ∙ c .before .token .given .1)) in
+    (omega (arith, P .token .ordered, P .token .inside, c .before .before .before .before .before .before .pre .1), record { start-low = zero-le; stop-low = zero-le })
 
 read-value-requires : tie.Need-read-value-requires
 read-value-requires c κs = let P = (ahead-token (c .before .before .before .before .before .before .before .before .args .rules .sw) (c .before .before .before .before .before .before .before .before .args .text .now) 0 _ (omega arith) (sym (c .before .before .before .before .before .token-from .ensures) ∙ c .before .before .before .token .given .1)) in
-    (fresh-ready (c .before .fresh-due .ensures) (c .before .before .before .before .before .before .before .before .pre .0) zero-le (omega (arith, P .token .ordered, P .token .inside, c .before .before .before .before .before .before .before .before .pre .1)) (λ _. refl) zero-le zero-le, (P .token, c .before .before .before .before .before .before .before .before .pre .1))
+    (fresh-ready (c .before .fresh-due .ensures) (c .before .before .before .before .before .before .before .before .pre .0) zero-le (λ _. refl), (P .token, c .before .before .before .before .before .before .before .before .pre .1))
 
 enum-known-refusal : tie.Need-enum-known-refusal
 enum-known-refusal c = search needs
@@ -43,7 +46,7 @@ same-length : tie.Need-same-length
 same-length c = c .before .before .before .before .before .read-value .kept .1 .1 .0
 
 returns : tie.Need-returns
-returns c = record { is = whole-stops (c .before .before .before .before .before .before .before .before .before .before .before .before .before .before .args .rules .sw) (c .before .before .before .before .before .before .before .before .before .before .before .before .before .before .args .rules .limits) (c .before .before .before .before .before .before .before .before .before .before .before .before .before .before .args .any) (c .before .before .before .before .before .before .before .before .before .before .before .before .before .before .args .text .now) _ _ _ (ahead-token (c .before .before .before .before .before .before .before .before .before .before .before .before .before .before .args .rules .sw) (c .before .before .before .before .before .before .before .before .before .before .before .before .before .before .args .text .now) 0 _ (omega arith) (sym (c .before .before .before .before .before .before .before .before .before .before .before .token-from .ensures) ∙ c .before .before .before .before .before .before .before .before .before .token .given .1)) _ _ (fresh-stops (c .before .before .before .before .before .before .before .fresh-due .ensures) (c .before .refusal .given .1) (c .before .before .before .before .before .read-value .ensures)) }
+returns c = record { is = whole-stops (c .before .before .before .before .before .before .before .before .before .before .before .before .before .before .args .rules .sw) (c .before .before .before .before .before .before .before .before .before .before .before .before .before .before .args .rules .limits) (c .before .before .before .before .before .before .before .before .before .before .before .before .before .before .args .any) (c .before .before .before .before .before .before .before .before .before .before .before .before .before .before .args .text .now) _ _ _ (ahead-token (c .before .before .before .before .before .before .before .before .before .before .before .before .before .before .args .rules .sw) (c .before .before .before .before .before .before .before .before .before .before .before .before .before .before .args .text .now) 0 _ (omega arith) (sym (c .before .before .before .before .before .before .before .before .before .before .before .token-from .ensures) ∙ c .before .before .before .before .before .before .before .before .before .token .given .1)) _ _ _ _ (fresh-stops (c .before .before .before .before .before .before .before .fresh-due .ensures) (c .before .refusal .given .1) (c .before .before .before .before .before .read-value .ensures)) }
 
 same-length-2 : tie.Need-same-length-2
 same-length-2 c = c .before .before .before .before .before .before .read-value .kept .1 .1 .0

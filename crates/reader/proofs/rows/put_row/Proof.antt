@@ -18,8 +18,12 @@ ten n = omega arith
 eleven : (n : ℕ) → n + 11 ≡ suc (suc (suc (n + 8)))
 eleven n = omega arith
 
-mul-i : tie.Need-mul-i
-mul-i c = omega arith
+
+mul-row : tie.Need-mul-row
+mul-row c = omega arith
+
+add-table : tie.Need-add-table
+add-table c = omega arith
 
 mul-table : tie.Need-mul-table
 mul-table c = omega arith
@@ -27,8 +31,8 @@ mul-table c = omega arith
 slice-write-table : tie.Need-slice-write-table
 slice-write-table c = omega arith
 
-add-table : tie.Need-add-table
-add-table c = omega arith
+add-table-2 : tie.Need-add-table-2
+add-table-2 c = omega arith
 
 mul-table-2 : tie.Need-mul-table-2
 mul-table-2 c = omega arith
@@ -36,11 +40,8 @@ mul-table-2 c = omega arith
 slice-write-table-2 : tie.Need-slice-write-table-2
 slice-write-table-2 c = simp length-set (omega arith)
 
-cast-table : tie.Need-cast-table
-cast-table c = search needs
-
-add-table-2 : tie.Need-add-table-2
-add-table-2 c = omega arith
+add-table-3 : tie.Need-add-table-3
+add-table-3 c = omega arith
 
 mul-table-3 : tie.Need-mul-table-3
 mul-table-3 c = omega arith
@@ -48,11 +49,11 @@ mul-table-3 c = omega arith
 slice-write-table-3 : tie.Need-slice-write-table-3
 slice-write-table-3 c = simp length-set (omega arith)
 
-cast-table-2 : tie.Need-cast-table-2
-cast-table-2 c = search needs
+cast-table : tie.Need-cast-table
+cast-table c = search needs
 
-add-table-3 : tie.Need-add-table-3
-add-table-3 c = omega arith
+add-table-4 : tie.Need-add-table-4
+add-table-4 c = omega arith
 
 mul-table-4 : tie.Need-mul-table-4
 mul-table-4 c = omega arith
@@ -60,11 +61,8 @@ mul-table-4 c = omega arith
 slice-write-table-4 : tie.Need-slice-write-table-4
 slice-write-table-4 c = simp length-set (omega arith)
 
-cast-table-3 : tie.Need-cast-table-3
-cast-table-3 c = search needs
-
-add-table-4 : tie.Need-add-table-4
-add-table-4 c = omega arith
+add-table-5 : tie.Need-add-table-5
+add-table-5 c = omega arith
 
 mul-table-5 : tie.Need-mul-table-5
 mul-table-5 c = omega arith
@@ -72,11 +70,8 @@ mul-table-5 c = omega arith
 slice-write-table-5 : tie.Need-slice-write-table-5
 slice-write-table-5 c = simp length-set (omega arith)
 
-cast-table-4 : tie.Need-cast-table-4
-cast-table-4 c = search needs
-
-add-table-5 : tie.Need-add-table-5
-add-table-5 c = omega arith
+add-table-6 : tie.Need-add-table-6
+add-table-6 c = omega arith
 
 mul-table-6 : tie.Need-mul-table-6
 mul-table-6 c = omega arith
@@ -84,11 +79,8 @@ mul-table-6 c = omega arith
 slice-write-table-6 : tie.Need-slice-write-table-6
 slice-write-table-6 c = simp length-set (omega arith)
 
-cast-table-5 : tie.Need-cast-table-5
-cast-table-5 c = search needs
-
-add-table-6 : tie.Need-add-table-6
-add-table-6 c = omega arith
+add-table-7 : tie.Need-add-table-7
+add-table-7 c = omega arith
 
 mul-table-7 : tie.Need-mul-table-7
 mul-table-7 c = omega arith
@@ -96,11 +88,8 @@ mul-table-7 c = omega arith
 slice-write-table-7 : tie.Need-slice-write-table-7
 slice-write-table-7 c = simp length-set (omega arith)
 
-cast-table-6 : tie.Need-cast-table-6
-cast-table-6 c = search needs
-
-add-table-7 : tie.Need-add-table-7
-add-table-7 c = omega arith
+add-table-8 : tie.Need-add-table-8
+add-table-8 c = omega arith
 
 mul-table-8 : tie.Need-mul-table-8
 mul-table-8 c = omega arith
@@ -108,11 +97,11 @@ mul-table-8 c = omega arith
 slice-write-table-8 : tie.Need-slice-write-table-8
 slice-write-table-8 c = simp length-set (omega arith)
 
-cast-table-7 : tie.Need-cast-table-7
-cast-table-7 c = search needs
+cast-table-2 : tie.Need-cast-table-2
+cast-table-2 c = search needs
 
-add-table-8 : tie.Need-add-table-8
-add-table-8 c = omega arith
+add-table-9 : tie.Need-add-table-9
+add-table-9 c = omega arith
 
 mul-table-9 : tie.Need-mul-table-9
 mul-table-9 c = omega arith
@@ -120,8 +109,8 @@ mul-table-9 c = omega arith
 slice-write-table-9 : tie.Need-slice-write-table-9
 slice-write-table-9 c = simp length-set (omega arith)
 
-add-table-9 : tie.Need-add-table-9
-add-table-9 c = omega arith
+add-table-10 : tie.Need-add-table-10
+add-table-10 c = omega arith
 
 mul-table-10 : tie.Need-mul-table-10
 mul-table-10 c = omega arith
@@ -129,8 +118,8 @@ mul-table-10 c = omega arith
 slice-write-table-10 : tie.Need-slice-write-table-10
 slice-write-table-10 c = simp length-set (omega arith)
 
-add-table-10 : tie.Need-add-table-10
-add-table-10 c = omega arith
+add-table-11 : tie.Need-add-table-11
+add-table-11 c = omega arith
 
 mul-table-11 : tie.Need-mul-table-11
 mul-table-11 c = omega arith
@@ -138,8 +127,8 @@ mul-table-11 c = omega arith
 slice-write-table-11 : tie.Need-slice-write-table-11
 slice-write-table-11 c = simp length-set (omega arith)
 
-add-table-11 : tie.Need-add-table-11
-add-table-11 c = omega arith
+add-table-12 : tie.Need-add-table-12
+add-table-12 c = omega arith
 
 mul-table-12 : tie.Need-mul-table-12
 mul-table-12 c = omega arith
@@ -157,47 +146,43 @@ pub put-row-spec : {M : Type 1} → statement M
 put-row-spec =
     tie.close
     (tie.spec
-    mul-i
+    mul-row
+    add-table
     mul-table
     slice-write-table
-    add-table
+    add-table-2
     mul-table-2
     slice-write-table-2
-    cast-table
-    add-table-2
+    add-table-3
     mul-table-3
     slice-write-table-3
-    cast-table-2
-    add-table-3
+    cast-table
+    add-table-4
     mul-table-4
     slice-write-table-4
-    cast-table-3
-    add-table-4
+    add-table-5
     mul-table-5
     slice-write-table-5
-    cast-table-4
-    add-table-5
+    add-table-6
     mul-table-6
     slice-write-table-6
-    cast-table-5
-    add-table-6
+    add-table-7
     mul-table-7
     slice-write-table-7
-    cast-table-6
-    add-table-7
+    add-table-8
     mul-table-8
     slice-write-table-8
-    cast-table-7
-    add-table-8
+    cast-table-2
+    add-table-9
     mul-table-9
     slice-write-table-9
-    add-table-9
+    add-table-10
     mul-table-10
     slice-write-table-10
-    add-table-10
+    add-table-11
     mul-table-11
     slice-write-table-11
-    add-table-11
+    add-table-12
     mul-table-12
     slice-write-table-12
     same-length

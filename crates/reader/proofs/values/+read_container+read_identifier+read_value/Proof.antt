@@ -12,7 +12,7 @@ use Rattle.reader.specs.Syntax.{container}
 use Rattle.reader.specs.Internal.Values.{labelOf, opened}
 use Rattle.reader.proofs.StepRun.{past-token}
 use Rattle.reader.proofs.ItemRun.{told-at, told-not, next-is}
-use Rattle.reader.proofs.BodyRun.{Within, took, stops, due-as, begins-as, value-is, last-is, wrong-is, fresh-took, fresh-stops, fresh-ready, body-look, body-value, body-more, body-over, body-last, body-wrong, body-stop, body-off, body-took, node-left, open-deep, open-full, body-start}
+use Rattle.reader.proofs.BodyRun.{Within, took, stops, due-as, begins-as, value-is, last-is, refused-is, fresh-took, fresh-stops, fresh-ready, body-look, body-value, body-more, body-over, body-last, body-wrong, body-stop, body-off, body-took, node-left, open-deep, open-full, body-start}
 use Rattle.reader.proofs.ValueRun.{begun-as, leaf-read, nothing-stops, named-ready, name-twice, name-full, name-not, name-stop, name-shut-not, name-took}
 use Prim.Native.Nat.{ℕ, _<_}
 use borrow.Fn.Kinds.{In}
@@ -40,14 +40,16 @@ use Rattle.reader.proofs.values.put_leaf.Reads as put-leaf-reads
 use Rattle.reader.proofs.values.+read_container+read_identifier+read_value.{statement}
 use Rattle.reader.proofs.values.+read_container+read_identifier+read_value.Tie.{close}
 
+
+
 abbrev μ-read-container : Measures 2 read-container-kinds.ps ℕ
-μ-read-container κs a = 2 * (length (a .1 .0 .now) - a .1 .1 .1 .1 .1 .0 .start)
+μ-read-container κs a = 2 * (length (a .1 .0 .now) - a .1 .1 .1 .1 .1 .0 .span .start)
 
 abbrev μ-read-identifier : Measures 2 read-identifier-kinds.ps ℕ
-μ-read-identifier κs a = 2 * (length (a .1 .0 .now) - a .1 .1 .1 .1 .0 .start)
+μ-read-identifier κs a = 2 * (length (a .1 .0 .now) - a .1 .1 .1 .1 .0 .span .start)
 
 abbrev μ-read-value : Measures 2 read-value-kinds.ps ℕ
-μ-read-value κs a = 2 * (length (a .1 .0 .now) - a .1 .1 .1 .1 .0 .start) + 1
+μ-read-value κs a = 2 * (length (a .1 .0 .now) - a .1 .1 .1 .1 .0 .span .start) + 1
 
 abbrev read-container-at : ℕ → In 2 read-container-kinds.ps
 read-container-at t =
@@ -108,19 +110,19 @@ abbrev read-container-μ-loop : read-container-lts.MeasureT-loop
 read-container-μ-loop rules text table₀ due kind place spot first from₀ children₀ table from children = length text - from
 
 read-container-returns : (t : ℕ) → read-container-lts.Need-returns (read-container-calls t) (read-container-at t) read-container.Post read-container-Inv-loop read-container-μ-loop
-read-container-returns t c = record { is = open-deep _ _ _ _ _ (c .before .before .before .before .before .before .args .due .fresh) (c .before .before .before .before .before .before .args .due .any) _ _ _ (c .before .before .before .before .before .before .args .kind) (c .if1 .taken) }
+read-container-returns t c = record { is = open-deep _ _ _ _ _ (c .before .before .before .before .before .before .args .due .fresh) (c .before .before .before .before .before .before .args .due .any) _ _ _ (c .before .before .before .before .before .before .args .kind) (c .if1 .taken) _ }
 
 read-container-is-full-requires : (t : ℕ) → read-container-lts.Need-is-full-requires (read-container-calls t) (read-container-at t) read-container.Post read-container-Inv-loop read-container-μ-loop
 read-container-is-full-requires t c κs = search needs
 
 read-container-returns-2 : (t : ℕ) → read-container-lts.Need-returns-2 (read-container-calls t) (read-container-at t) read-container.Post read-container-Inv-loop read-container-μ-loop
-read-container-returns-2 t c = record { is = open-full _ _ _ _ _ (c .before .before .before .before .before .before .before .before .args .due .fresh) (c .before .before .before .before .before .before .before .before .args .due .any) _ _ _ (c .before .before .before .before .before .before .before .before .args .kind) (c .before .before .if1 .left) (sym (c .before .is-full .ensures) ∙ c .if2 .taken) }
+read-container-returns-2 t c = record { is = open-full _ _ _ _ _ (c .before .before .before .before .before .before .before .before .args .due .fresh) (c .before .before .before .before .before .before .before .before .args .due .any) _ _ _ (c .before .before .before .before .before .before .before .before .args .kind) (c .before .before .if1 .left) (sym (c .before .is-full .ensures) ∙ c .if2 .taken) _ }
 
 read-container-add-first : (t : ℕ) → read-container-lts.Need-add-first (read-container-calls t) (read-container-at t) read-container.Post read-container-Inv-loop read-container-μ-loop
 read-container-add-first t c = let w = node-left _ (c .before .before .before .before .before .before .before .before .before .args .due .fresh) (c .before .before .before .before .before .before .before .before .before .args .due .spot .node) (sym (c .before .before .is-full .ensures) ∙ c .before .if2 .left) (c .before .before .before .before .before .before .before .before .before .pre .1 .0 .counted) in omega (arith, c .before .before .before .before .before .before .before .before .before .pre .1 .0 .table .small)
 
 read-container-loop-holds : (t : ℕ) → read-container-lts.Need-loop-holds (read-container-calls t) (read-container-at t) read-container.Post read-container-Inv-loop read-container-μ-loop
-read-container-loop-holds t c = (nil, [], refl, body-start (c .before .before .before .before .before .before .before .before .before .args .rules .sw) (c .before .before .before .before .before .before .before .before .before .args .rules .limits) (c .before .before .before .before .before .before .before .before .before .args .text .now) (c .before .before .before .before .before .before .before .before .before .args .bracket .start) (c .before .before .before .before .before .before .before .before .before .args .bracket .stop) (c .before .before .before .before .before .before .before .before .before .args .due .fresh) (c .before .before .before .before .before .before .before .before .before .args .due .any) (labelOf (c .before .before .before .before .before .before .before .before .before .args .due .label)) (c .before .before .before .before .before .before .before .before .before .args .due .spot .node) (c .before .before .before .before .before .before .before .before .before .args .due .spot .depth) (c .before .before .before .before .before .before .before .before .before .args .kind) _ (c .before .before .before .if1 .left) (sym (c .before .before .is-full .ensures) ∙ c .before .if2 .left) (node-left _ (c .before .before .before .before .before .before .before .before .before .args .due .fresh) (c .before .before .before .before .before .before .before .before .before .args .due .spot .node) (sym (c .before .before .is-full .ensures) ∙ c .before .if2 .left) (c .before .before .before .before .before .before .before .before .before .pre .1 .0 .counted)) (c .before .before .before .before .before .before .before .before .before .pre .1 .1 .ordered) (c .before .before .before .before .before .before .before .before .before .pre .1 .1 .inside) (c .before .before .before .before .before .before .before .before .before .pre .1 .0 .table .room))
+read-container-loop-holds t c = (nil, [], refl, body-start (c .before .before .before .before .before .before .before .before .before .args .rules .sw) (c .before .before .before .before .before .before .before .before .before .args .rules .limits) (c .before .before .before .before .before .before .before .before .before .args .text .now) (c .before .before .before .before .before .before .before .before .before .args .bracket .span .start) (c .before .before .before .before .before .before .before .before .before .args .bracket .span .stop) (c .before .before .before .before .before .before .before .before .before .args .due .fresh) (c .before .before .before .before .before .before .before .before .before .args .due .any) (labelOf (c .before .before .before .before .before .before .before .before .before .args .due .label)) (c .before .before .before .before .before .before .before .before .before .args .due .spot .node) (c .before .before .before .before .before .before .before .before .before .args .due .spot .depth) (c .before .before .before .before .before .before .before .before .before .args .kind) _ (c .before .before .before .if1 .left) (sym (c .before .before .is-full .ensures) ∙ c .before .if2 .left) (node-left _ (c .before .before .before .before .before .before .before .before .before .args .due .fresh) (c .before .before .before .before .before .before .before .before .before .args .due .spot .node) (sym (c .before .before .is-full .ensures) ∙ c .before .if2 .left) (c .before .before .before .before .before .before .before .before .before .pre .1 .0 .counted)) (c .before .before .before .before .before .before .before .before .before .pre .1 .1 .ordered) (c .before .before .before .before .before .before .before .before .before .pre .1 .1 .inside) (c .before .before .before .before .before .before .before .before .before .pre .1 .0 .table .room))
 
 read-container-next-item-requires : (t : ℕ) → read-container-lts.Need-next-item-requires (read-container-calls t) (read-container-at t) read-container.Post read-container-Inv-loop read-container-μ-loop
 read-container-next-item-requires t c κs = body-look (c .before .loop .inv .2) (c .before .before .before .before .before .before .before .before .before .before .before .pre .1 .1 .short) (c .before .loop .inv .3)
@@ -132,14 +134,14 @@ read-container-same-length : (t : ℕ) → read-container-lts.Need-same-length (
 read-container-same-length t c = c .before .before .before .before .before .loop .inv .3 .long
 
 read-container-returns-3 : (t : ℕ) → read-container-lts.Need-returns-3 (read-container-calls t) (read-container-at t) read-container.Post read-container-Inv-loop read-container-μ-loop
-read-container-returns-3 t c = record { is = body-wrong (c .before .before .before .before .before .loop .inv .3) (wrong-is (c .before .before .before .before .before .loop .inv .2) (c .before .refusal .given .1) (c .before .before .before .next-item .ensures)) }
+read-container-returns-3 t c = record { is = body-wrong (c .before .before .before .before .before .loop .inv .3) (refused-is (c .before .before .before .before .before .loop .inv .2) (c .before .refusal .given .1) (c .before .before .before .next-item .ensures)) }
 
 read-container-enum-known-end : (t : ℕ) → read-container-lts.Need-enum-known-end (read-container-calls t) (read-container-at t) read-container.Post read-container-Inv-loop read-container-μ-loop
 read-container-enum-known-end t c = search needs
 
 read-container-put-branch-requires : (t : ℕ) → read-container-lts.Need-put-branch-requires (read-container-calls t) (read-container-at t) read-container.Post read-container-Inv-loop read-container-μ-loop
 read-container-put-branch-requires t c κs = let L = last-is (c .before .before .before .before .before .before .loop .inv .2) (c .before .before .end .given .1) (c .before .before .before .before .next-item .ensures) in
-    (record { row = omega (arith, c .before .before .before .before .before .before .loop .inv .3 .grew, c .before .before .before .before .before .before .loop .inv .3 .below, c .before .before .before .before .before .before .loop .inv .3 .room, c .before .before .before .before .before .before .loop .inv .3 .long); label = c .before .before .before .before .before .before .before .before .before .before .before .before .before .before .before .before .pre .1 .0 .label; stop-low = omega (arith, L .inside, c .before .before .before .before .before .before .before .before .before .before .before .before .before .before .before .before .pre .1 .1 .short); next-low = omega (arith, c .before .before .before .before .before .before .loop .inv .3 .below, c .before .before .before .before .before .before .before .before .before .before .before .before .before .before .before .before .pre .1 .0 .table .small) }, omega (arith, c .before .before .before .before .before .before .loop .inv .3 .few))
+    (record { row = omega (arith, c .before .before .before .before .before .before .loop .inv .3 .grew, c .before .before .before .before .before .before .loop .inv .3 .below, c .before .before .before .before .before .before .loop .inv .3 .room, c .before .before .before .before .before .before .loop .inv .3 .long); stop-low = omega (arith, L .inside, c .before .before .before .before .before .before .before .before .before .before .before .before .before .before .before .before .pre .1 .1 .short); next-low = omega (arith, c .before .before .before .before .before .before .loop .inv .3 .below, c .before .before .before .before .before .before .before .before .before .before .before .before .before .before .before .before .pre .1 .0 .table .small) }, omega (arith, c .before .before .before .before .before .before .loop .inv .3 .few))
 
 read-container-same-length-2 : (t : ℕ) → read-container-lts.Need-same-length-2 (read-container-calls t) (read-container-at t) read-container.Post read-container-Inv-loop read-container-μ-loop
 read-container-same-length-2 t c = c .before .before .put-branch .kept .0 ∙ c .before .before .before .before .before .before .before .before .before .loop .inv .3 .long
@@ -151,17 +153,15 @@ read-container-enum-known-token : (t : ℕ) → read-container-lts.Need-enum-kno
 read-container-enum-known-token t c = search needs
 
 read-container-child-due-requires : (t : ℕ) → read-container-lts.Need-child-due-requires (read-container-calls t) (read-container-at t) read-container.Post read-container-Inv-loop read-container-μ-loop
-read-container-child-due-requires t c κs = let w = node-left _ (c .before .before .before .before .before .before .before .before .before .before .before .before .before .before .before .args .due .fresh) (c .before .before .before .before .before .before .before .before .before .before .before .before .before .before .before .args .due .spot .node) (sym (c .before .before .before .before .before .before .before .before .is-full .ensures) ∙ c .before .before .before .before .before .before .before .if2 .left) (c .before .before .before .before .before .before .before .before .before .before .before .before .before .before .before .pre .1 .0 .counted) in (omega (arith, c .before .before .before .before .before .before .before .before .before .if1 .left), omega (arith, c .before .before .before .before .before .before .before .before .before .before .before .before .before .before .before .pre .1 .0 .table .small))
+read-container-child-due-requires t c κs = let w = node-left _ (c .before .before .before .before .before .before .before .before .before .before .before .before .before .before .before .args .due .fresh) (c .before .before .before .before .before .before .before .before .before .before .before .before .before .before .before .args .due .spot .node) (sym (c .before .before .before .before .before .before .before .before .is-full .ensures) ∙ c .before .before .before .before .before .before .before .if2 .left) (c .before .before .before .before .before .before .before .before .before .before .before .before .before .before .before .pre .1 .0 .counted) in let I = value-is (c .before .before .before .before .before .loop .inv .2) (c .before .token .given .1) (c .before .before .before .next-item .ensures) in
+    ((omega (arith, c .before .before .before .before .before .before .before .before .before .if1 .left), omega (arith, c .before .before .before .before .before .before .before .before .before .before .before .before .before .before .before .pre .1 .0 .table .small)), (omega (arith, I .token .ordered, I .token .inside, c .before .before .before .before .before .before .before .before .before .before .before .before .before .before .before .pre .1 .1 .short), record { start-low = I .short .0; stop-low = I .short .1 }))
 
 read-container-read-value-requires : (t : ℕ) → read-container-lts.Need-read-value-requires (read-container-calls t) (read-container-at t) read-container.Post read-container-Inv-loop read-container-μ-loop
 read-container-read-value-requires t c κs = let I = value-is (c .before .before .before .before .before .before .before .loop .inv .2) (c .before .before .before .token .given .1) (c .before .before .before .before .before .next-item .ensures) in
-    let g : 2 * (length (c .before .before .before .before .before .before .before .before .before .before .before .before .before .before .before .before .before .args .text .now) - c .before .before .before .token .given .0 .0 .start) + 1 < t = omega (arith, c .before .before .before .before .before .before .before .before .before .before .before .before .before .before .before .before .before .pre .0, I .ahead, I .token .ordered, I .token .inside, c .before .before .before .before .before .before .before .loop .inv .3 .ahead) in (
-      g,
-      (
-        fresh-ready (c .before .child-due .ensures) (record { room = omega (arith, c .before .before .before .before .before .before .before .loop .inv .3 .room, c .before .before .before .before .before .before .before .loop .inv .3 .long); small = c .before .before .before .before .before .before .before .before .before .before .before .before .before .before .before .before .before .pre .1 .0 .table .small }) (c .before .before .before .before .before .before .before .loop .inv .3 .below) (omega (arith, I .token .ordered, I .token .inside, c .before .before .before .before .before .before .before .before .before .before .before .before .before .before .before .before .before .pre .1 .1 .short)) (I .sane) (I .small .0) (I .small .1),
-        (I .token, c .before .before .before .before .before .before .before .before .before .before .before .before .before .before .before .before .before .pre .1 .1 .short),
-      ),
-    )
+    let g : 2 * (length (c .before .before .before .before .before .before .before .before .before .before .before .before .before .before .before .before .before .args .text .now) - c .before .before .before .token .given .0 .0 .span .start) + 1 < t = omega (arith, c .before .before .before .before .before .before .before .before .before .before .before .before .before .before .before .before .before .pre .0, I .ahead, I .token .ordered, I .token .inside, c .before .before .before .before .before .before .before .loop .inv .3 .ahead) in
+    (g,
+    (fresh-ready (c .before .child-due .ensures) (record { room = omega (arith, c .before .before .before .before .before .before .before .loop .inv .3 .room, c .before .before .before .before .before .before .before .loop .inv .3 .long); small = c .before .before .before .before .before .before .before .before .before .before .before .before .before .before .before .before .before .pre .1 .0 .table .small }) (c .before .before .before .before .before .before .before .loop .inv .3 .below) (I .apart),
+    (I .token, c .before .before .before .before .before .before .before .before .before .before .before .before .before .before .before .before .before .pre .1 .1 .short)))
 
 read-container-enum-known-refusal-2 : (t : ℕ) → read-container-lts.Need-enum-known-refusal-2 (read-container-calls t) (read-container-at t) read-container.Post read-container-Inv-loop read-container-μ-loop
 read-container-enum-known-refusal-2 t c = search needs
@@ -188,14 +188,14 @@ read-container-same-length-4 : (t : ℕ) → read-container-lts.Need-same-length
 read-container-same-length-4 t c = c .before .before .before .before .before .before .before .before .before .before .read-value .kept .1 .1 .0 ∙ c .before .before .before .before .before .before .before .before .before .before .before .before .before .before .before .before .before .before .loop .inv .3 .long
 
 read-container-returns-6 : (t : ℕ) → read-container-lts.Need-returns-6 (read-container-calls t) (read-container-at t) read-container.Post read-container-Inv-loop read-container-μ-loop
-read-container-returns-6 t c = record { is = body-off (body-value (c .before .before .before .before .before .before .before .before .before .before .before .before .before .before .before .before .before .before .loop .inv .3) (value-is (c .before .before .before .before .before .before .before .before .before .before .before .before .before .before .before .before .before .before .loop .inv .2) (c .before .before .before .before .before .before .before .before .before .before .before .before .before .before .token .given .1) (c .before .before .before .before .before .before .before .before .before .before .before .before .before .before .before .before .next-item .ensures)) (fresh-took (c .before .before .before .before .before .before .before .before .before .before .before .before .child-due .ensures) (c .before .before .before .before .before .before .stop .given .1) (c .before .before .before .before .before .before .before .before .before .before .read-value .ensures)) (c .before .before .before .before .before .before .before .before .before .before .read-value .kept .1 .1 .0)) (next-is (c .before .before .before .before .before .before .before .before .before .before .before .before .before .before .before .before .before .before .before .before .before .before .before .before .before .before .before .before .args .rules .sw) (c .before .before .before .before .before .before .before .before .before .before .before .before .before .before .before .before .before .before .before .before .before .before .before .before .before .before .before .before .args .text .now) (c .before .before .before .before .before .before .before .before .before .before .before .before .before .before .before .before .before .before .before .before .before .before .before .before .before .before .before .before .args .kind) _ ((fresh-took (c .before .before .before .before .before .before .before .before .before .before .before .before .child-due .ensures) (c .before .before .before .before .before .before .stop .given .1) (c .before .before .before .before .before .before .before .before .before .before .read-value .ensures)) .inside) (c .before .before .before .after-item .ensures) (X.Off _) (c .before .refusal3 .given .1)) }
+read-container-returns-6 t c = record { is = body-off (body-value (c .before .before .before .before .before .before .before .before .before .before .before .before .before .before .before .before .before .before .loop .inv .3) (value-is (c .before .before .before .before .before .before .before .before .before .before .before .before .before .before .before .before .before .before .loop .inv .2) (c .before .before .before .before .before .before .before .before .before .before .before .before .before .before .token .given .1) (c .before .before .before .before .before .before .before .before .before .before .before .before .before .before .before .before .next-item .ensures)) (fresh-took (c .before .before .before .before .before .before .before .before .before .before .before .before .child-due .ensures) (c .before .before .before .before .before .before .stop .given .1) (c .before .before .before .before .before .before .before .before .before .before .read-value .ensures)) (c .before .before .before .before .before .before .before .before .before .before .read-value .kept .1 .1 .0)) (next-is (c .before .before .before .before .before .before .before .before .before .before .before .before .before .before .before .before .before .before .before .before .before .before .before .before .before .before .before .before .args .rules .sw) (c .before .before .before .before .before .before .before .before .before .before .before .before .before .before .before .before .before .before .before .before .before .before .before .before .before .before .before .before .args .text .now) (c .before .before .before .before .before .before .before .before .before .before .before .before .before .before .before .before .before .before .before .before .before .before .before .before .before .before .before .before .args .kind) _ ((fresh-took (c .before .before .before .before .before .before .before .before .before .before .before .before .child-due .ensures) (c .before .before .before .before .before .before .stop .given .1) (c .before .before .before .before .before .before .before .before .before .before .read-value .ensures)) .inside) (c .before .before .before .after-item .ensures) (X.Refused _) (c .before .refusal3 .given .1)) }
 
 read-container-enum-known-end-2 : (t : ℕ) → read-container-lts.Need-enum-known-end-2 (read-container-calls t) (read-container-at t) read-container.Post read-container-Inv-loop read-container-μ-loop
 read-container-enum-known-end-2 t c = search needs
 
 read-container-put-branch-requires-2 : (t : ℕ) → read-container-lts.Need-put-branch-requires-2 (read-container-calls t) (read-container-at t) read-container.Post read-container-Inv-loop read-container-μ-loop
 read-container-put-branch-requires-2 t c κs = let B = body-value (c .before .before .before .before .before .before .before .before .before .before .before .before .before .before .before .before .before .before .before .loop .inv .3) (value-is (c .before .before .before .before .before .before .before .before .before .before .before .before .before .before .before .before .before .before .before .loop .inv .2) (c .before .before .before .before .before .before .before .before .before .before .before .before .before .before .before .token .given .1) (c .before .before .before .before .before .before .before .before .before .before .before .before .before .before .before .before .before .next-item .ensures)) (fresh-took (c .before .before .before .before .before .before .before .before .before .before .before .before .before .child-due .ensures) (c .before .before .before .before .before .before .before .stop .given .1) (c .before .before .before .before .before .before .before .before .before .before .before .read-value .ensures)) (c .before .before .before .before .before .before .before .before .before .before .before .read-value .kept .1 .1 .0) in let C = next-is (c .before .before .before .before .before .before .before .before .before .before .before .before .before .before .before .before .before .before .before .before .before .before .before .before .before .before .before .before .before .args .rules .sw) (c .before .before .before .before .before .before .before .before .before .before .before .before .before .before .before .before .before .before .before .before .before .before .before .before .before .before .before .before .before .args .text .now) (c .before .before .before .before .before .before .before .before .before .before .before .before .before .before .before .before .before .before .before .before .before .before .before .before .before .before .before .before .before .args .kind) _ ((fresh-took (c .before .before .before .before .before .before .before .before .before .before .before .before .before .child-due .ensures) (c .before .before .before .before .before .before .before .stop .given .1) (c .before .before .before .before .before .before .before .before .before .before .before .read-value .ensures)) .inside) (c .before .before .before .before .after-item .ensures) (X.Over _) (c .before .before .end2 .given .1) in
-    (record { row = omega (arith, B .grew, B .below, B .room, B .long); label = c .before .before .before .before .before .before .before .before .before .before .before .before .before .before .before .before .before .before .before .before .before .before .before .before .before .before .before .before .before .pre .1 .0 .label; stop-low = omega (arith, C .within, c .before .before .before .before .before .before .before .before .before .before .before .before .before .before .before .before .before .before .before .before .before .before .before .before .before .before .before .before .before .pre .1 .1 .short); next-low = omega (arith, B .below, c .before .before .before .before .before .before .before .before .before .before .before .before .before .before .before .before .before .before .before .before .before .before .before .before .before .before .before .before .before .pre .1 .0 .table .small) }, omega (arith, B .few))
+    (record { row = omega (arith, B .grew, B .below, B .room, B .long); stop-low = omega (arith, C .within, c .before .before .before .before .before .before .before .before .before .before .before .before .before .before .before .before .before .before .before .before .before .before .before .before .before .before .before .before .before .pre .1 .1 .short); next-low = omega (arith, B .below, c .before .before .before .before .before .before .before .before .before .before .before .before .before .before .before .before .before .before .before .before .before .before .before .before .before .before .before .before .before .pre .1 .0 .table .small) }, omega (arith, B .few))
 
 read-container-same-length-5 : (t : ℕ) → read-container-lts.Need-same-length-5 (read-container-calls t) (read-container-at t) read-container.Post read-container-Inv-loop read-container-μ-loop
 read-container-same-length-5 t c = c .before .before .put-branch2 .kept .0 ∙ c .before .before .before .before .before .before .before .before .before .before .before .before .before .before .read-value .kept .1 .1 .0 ∙ c .before .before .before .before .before .before .before .before .before .before .before .before .before .before .before .before .before .before .before .before .before .before .loop .inv .3 .long
@@ -213,13 +213,13 @@ read-container-loop-again : (t : ℕ) → read-container-lts.Need-loop-again (re
 read-container-loop-again t c = (_, _, c .before .before .before .before .before .before .before .before .before .before .before .before .before .before .before .before .before .before .loop .inv .2, body-more (body-value (c .before .before .before .before .before .before .before .before .before .before .before .before .before .before .before .before .before .before .loop .inv .3) (value-is (c .before .before .before .before .before .before .before .before .before .before .before .before .before .before .before .before .before .before .loop .inv .2) (c .before .before .before .before .before .before .before .before .before .before .before .before .before .before .token .given .1) (c .before .before .before .before .before .before .before .before .before .before .before .before .before .before .before .before .next-item .ensures)) (fresh-took (c .before .before .before .before .before .before .before .before .before .before .before .before .child-due .ensures) (c .before .before .before .before .before .before .stop .given .1) (c .before .before .before .before .before .before .before .before .before .before .read-value .ensures)) (c .before .before .before .before .before .before .before .before .before .before .read-value .kept .1 .1 .0)) (next-is (c .before .before .before .before .before .before .before .before .before .before .before .before .before .before .before .before .before .before .before .before .before .before .before .before .before .before .before .before .args .rules .sw) (c .before .before .before .before .before .before .before .before .before .before .before .before .before .before .before .before .before .before .before .before .before .before .before .before .before .before .before .before .args .text .now) (c .before .before .before .before .before .before .before .before .before .before .before .before .before .before .before .before .before .before .before .before .before .before .before .before .before .before .before .before .args .kind) _ ((fresh-took (c .before .before .before .before .before .before .before .before .before .before .before .before .child-due .ensures) (c .before .before .before .before .before .before .stop .given .1) (c .before .before .before .before .before .before .before .before .before .before .read-value .ensures)) .inside) (c .before .before .before .after-item .ensures) (X.More _) (c .before .comma .given .1)) (omega arith))
 
 read-identifier-returns : (t : ℕ) → read-identifier-lts.Need-returns (read-identifier-calls t) (read-identifier-at t) read-identifier.Post
-read-identifier-returns t c = record { is = name-twice _ _ _ _ _ (c .before .before .before .before .args .due .fresh) (c .before .before .before .before .args .due .any) _ _ _ (not-true _ (c .if1 .taken)) }
+read-identifier-returns t c = record { is = name-twice _ _ _ _ _ (c .before .before .before .before .args .due .fresh) (c .before .before .before .before .args .due .any) _ _ _ _ (not-true _ (c .if1 .taken)) }
 
 read-identifier-returns-2 : (t : ℕ) → read-identifier-lts.Need-returns-2 (read-identifier-calls t) (read-identifier-at t) read-identifier.Post
-read-identifier-returns-2 t c = record { is = name-full (c .before .before .before .before .before .before .before .args .rules .sw) (c .before .before .before .before .before .before .before .args .rules .limits) (c .before .before .before .before .before .before .before .args .text .now) (c .before .before .before .before .before .before .before .args .name .start) (c .before .before .before .before .before .before .before .args .name .stop) (c .before .before .before .before .before .before .before .args .due .fresh) (c .before .before .before .before .before .before .before .args .due .any) (c .before .before .before .before .before .before .before .args .due .label) (c .before .before .before .before .before .before .before .args .due .spot .node) (c .before .before .before .before .before .before .before .args .due .spot .depth) (not-false (c .before .before .before .before .before .before .before .args .due .fresh) (c .before .before .before .if1 .left)) (c .if2 .taken) }
+read-identifier-returns-2 t c = record { is = name-full (c .before .before .before .before .before .before .before .args .rules .sw) (c .before .before .before .before .before .before .before .args .rules .limits) (c .before .before .before .before .before .before .before .args .text .now) (c .before .before .before .before .before .before .before .args .name .span .start) (c .before .before .before .before .before .before .before .args .name .span .stop) (c .before .before .before .before .before .before .before .args .due .fresh) (c .before .before .before .before .before .before .before .args .due .any) (c .before .before .before .before .before .before .before .args .due .label) (c .before .before .before .before .before .before .before .args .due .spot .node) (c .before .before .before .before .before .before .before .args .due .spot .depth) (not-false (c .before .before .before .before .before .before .before .args .due .fresh) (c .before .before .before .if1 .left)) (c .if2 .taken) _ }
 
 read-identifier-named-due-requires : (t : ℕ) → read-identifier-lts.Need-named-due-requires (read-identifier-calls t) (read-identifier-at t) read-identifier.Post
-read-identifier-named-due-requires t c κs = search needs
+read-identifier-named-due-requires t c κs = record { start-low = omega (arith, c .before .before .before .before .before .before .before .pre .1 .1 .ordered, c .before .before .before .before .before .before .before .pre .1 .1 .inside, c .before .before .before .before .before .before .before .pre .1 .1 .short); stop-low = omega (arith, c .before .before .before .before .before .before .before .pre .1 .1 .inside, c .before .before .before .before .before .before .before .pre .1 .1 .short) }
 
 read-identifier-token-after-requires : (t : ℕ) → read-identifier-lts.Need-token-after-requires (read-identifier-calls t) (read-identifier-at t) read-identifier.Post
 read-identifier-token-after-requires t c κs = search needs
@@ -231,11 +231,10 @@ read-identifier-enum-known-token : (t : ℕ) → read-identifier-lts.Need-enum-k
 read-identifier-enum-known-token t c = search needs
 
 read-identifier-read-value-requires : (t : ℕ) → read-identifier-lts.Need-read-value-requires (read-identifier-calls t) (read-identifier-at t) read-identifier.Post
-read-identifier-read-value-requires t c κs = let P = past-token (c .before .before .before .before .before .before .before .before .before .before .before .before .before .args .rules .sw) (c .before .before .before .before .before .before .before .before .before .before .before .before .before .args .text .now) (c .before .before .before .before .before .before .before .before .before .before .before .before .before .args .name .stop) 40 (c .before .before .before .before .before .before .before .before .before .before .before .before .before .pre .1 .1 .inside) _ (sym (c .before .before .before .before .token-after .ensures) ∙ c .before .before .token .given .1) in
-    let g : 2 * (length (c .before .before .before .before .before .before .before .before .before .before .before .before .before .args .text .now) - c .before .before .token .given .0 .0 .start) + 1 < t = omega (arith, c .before .before .before .before .before .before .before .before .before .before .before .before .before .pre .0, P .mark .ahead, P .mark .some, P .token .ahead, P .token .token .ordered, P .token .token .inside, c .before .before .before .before .before .before .before .before .before .before .before .before .before .pre .1 .1 .ordered) in (
-      g,
-      (named-ready (c .before .before .before .before .before .named-due .ensures) (c .before .before .before .before .before .before .before .before .before .before .before .before .before .pre .1 .0) (c .before .before .before .before .before .before .before .before .before .before .before .before .before .pre .1 .1) (c .before .before .before .before .before .before .if2 .left), (P .token .token, c .before .before .before .before .before .before .before .before .before .before .before .before .before .pre .1 .1 .short)),
-    )
+read-identifier-read-value-requires t c κs = let P = past-token (c .before .before .before .before .before .before .before .before .before .before .before .before .before .args .rules .sw) (c .before .before .before .before .before .before .before .before .before .before .before .before .before .args .text .now) (c .before .before .before .before .before .before .before .before .before .before .before .before .before .args .name .span .stop) 40 (c .before .before .before .before .before .before .before .before .before .before .before .before .before .pre .1 .1 .inside) _ (sym (c .before .before .before .before .token-after .ensures) ∙ c .before .before .token .given .1) in
+    let g : 2 * (length (c .before .before .before .before .before .before .before .before .before .before .before .before .before .args .text .now) - c .before .before .token .given .0 .0 .span .start) + 1 < t = omega (arith, c .before .before .before .before .before .before .before .before .before .before .before .before .before .pre .0, P .mark .ahead, P .mark .some, P .token .ahead, P .token .token .ordered, P .token .token .inside, c .before .before .before .before .before .before .before .before .before .before .before .before .before .pre .1 .1 .ordered) in
+    (g,
+    (named-ready (c .before .before .before .before .before .named-due .ensures) (c .before .before .before .before .before .before .before .before .before .before .before .before .before .pre .1 .0) (c .before .before .before .before .before .before .before .before .before .before .before .before .before .pre .1 .1) (c .before .before .before .before .before .before .if2 .left), (P .token .token, c .before .before .before .before .before .before .before .before .before .before .before .before .before .pre .1 .1 .short)))
 
 read-identifier-enum-known-refusal-2 : (t : ℕ) → read-identifier-lts.Need-enum-known-refusal-2 (read-identifier-calls t) (read-identifier-at t) read-identifier.Post
 read-identifier-enum-known-refusal-2 t c = search needs
@@ -259,25 +258,25 @@ read-identifier-put-stop-requires : (t : ℕ) → read-identifier-lts.Need-put-s
 read-identifier-put-stop-requires t c κs = omega (arith, c .before .before .before .before .before .before .before .before .before .before .read-value .kept .1 .1 .0, c .before .before .before .before .before .before .before .before .before .before .before .before .before .before .before .before .before .if2 .left, c .before .before .before .before .before .before .before .before .before .before .before .before .before .before .before .before .before .before .before .before .before .before .before .before .pre .1 .0 .table .room)
 
 read-identifier-returns-3 : (t : ℕ) → read-identifier-lts.Need-returns-3 (read-identifier-calls t) (read-identifier-at t) read-identifier.Post
-read-identifier-returns-3 t c = record { is = name-not (c .before .before .before .before .before .before .before .before .before .before .before .before .args .rules .sw) (c .before .before .before .before .before .before .before .before .before .before .before .before .args .rules .limits) (c .before .before .before .before .before .before .before .before .before .before .before .before .args .text .now) (c .before .before .before .before .before .before .before .before .before .before .before .before .args .name .start) (c .before .before .before .before .before .before .before .before .before .before .before .before .args .name .stop) (c .before .before .before .before .before .before .before .before .before .before .before .before .args .due .fresh) (c .before .before .before .before .before .before .before .before .before .before .before .before .args .due .any) (c .before .before .before .before .before .before .before .before .before .before .before .before .args .due .label) (c .before .before .before .before .before .before .before .before .before .before .before .before .args .due .spot .node) (c .before .before .before .before .before .before .before .before .before .before .before .before .args .due .spot .depth) (not-false (c .before .before .before .before .before .before .before .before .before .before .before .before .args .due .fresh) (c .before .before .before .before .before .before .before .before .if1 .left)) (c .before .before .before .before .before .if2 .left) (c .before .before .before .before .before .before .before .before .before .before .before .before .pre .1 .1 .ordered) _ (c .before .before .before .before .before .before .before .before .before .before .before .before .pre .1 .1 .inside) (sym (c .before .before .before .token-after .ensures) ∙ c .before .refusal .given .1) }
+read-identifier-returns-3 t c = record { is = name-not (c .before .before .before .before .before .before .before .before .before .before .before .before .args .rules .sw) (c .before .before .before .before .before .before .before .before .before .before .before .before .args .rules .limits) (c .before .before .before .before .before .before .before .before .before .before .before .before .args .text .now) (c .before .before .before .before .before .before .before .before .before .before .before .before .args .name .span .start) (c .before .before .before .before .before .before .before .before .before .before .before .before .args .name .span .stop) (c .before .before .before .before .before .before .before .before .before .before .before .before .args .due .fresh) (c .before .before .before .before .before .before .before .before .before .before .before .before .args .due .any) (c .before .before .before .before .before .before .before .before .before .before .before .before .args .due .label) (c .before .before .before .before .before .before .before .before .before .before .before .before .args .due .spot .node) (c .before .before .before .before .before .before .before .before .before .before .before .before .args .due .spot .depth) (not-false (c .before .before .before .before .before .before .before .before .before .before .before .before .args .due .fresh) (c .before .before .before .before .before .before .before .before .if1 .left)) (c .before .before .before .before .before .if2 .left) (c .before .before .before .before .before .before .before .before .before .before .before .before .pre .1 .1 .ordered) _ _ (c .before .before .before .before .before .before .before .before .before .before .before .before .pre .1 .1 .inside) (sym (c .before .before .before .token-after .ensures) ∙ c .before .refusal .given .1) }
 
 read-identifier-same-length : (t : ℕ) → read-identifier-lts.Need-same-length (read-identifier-calls t) (read-identifier-at t) read-identifier.Post
 read-identifier-same-length t c = c .before .before .before .before .before .read-value .kept .1 .1 .0
 
 read-identifier-returns-4 : (t : ℕ) → read-identifier-lts.Need-returns-4 (read-identifier-calls t) (read-identifier-at t) read-identifier.Post
-read-identifier-returns-4 t c = record { is = name-stop (c .before .before .before .before .before .before .before .before .before .before .before .before .before .before .before .before .before .before .before .args .rules .sw) (c .before .before .before .before .before .before .before .before .before .before .before .before .before .before .before .before .before .before .before .args .rules .limits) (c .before .before .before .before .before .before .before .before .before .before .before .before .before .before .before .before .before .before .before .args .text .now) (c .before .before .before .before .before .before .before .before .before .before .before .before .before .before .before .before .before .before .before .args .name .start) (c .before .before .before .before .before .before .before .before .before .before .before .before .before .before .before .before .before .before .before .args .name .stop) (c .before .before .before .before .before .before .before .before .before .before .before .before .before .before .before .before .before .before .before .args .due .fresh) (c .before .before .before .before .before .before .before .before .before .before .before .before .before .before .before .before .before .before .before .args .due .any) (c .before .before .before .before .before .before .before .before .before .before .before .before .before .before .before .before .before .before .before .args .due .label) (c .before .before .before .before .before .before .before .before .before .before .before .before .before .before .before .before .before .before .before .args .due .spot .node) (c .before .before .before .before .before .before .before .before .before .before .before .before .before .before .before .before .before .before .before .args .due .spot .depth) (not-false (c .before .before .before .before .before .before .before .before .before .before .before .before .before .before .before .before .before .before .before .args .due .fresh) (c .before .before .before .before .before .before .before .before .before .before .before .before .before .before .before .if1 .left)) (c .before .before .before .before .before .before .before .before .before .before .before .before .if2 .left) (c .before .before .before .before .before .before .before .before .before .before .before .before .before .before .before .before .before .before .before .pre .1 .1 .ordered) _ (past-token (c .before .before .before .before .before .before .before .before .before .before .before .before .before .before .before .before .before .before .before .args .rules .sw) (c .before .before .before .before .before .before .before .before .before .before .before .before .before .before .before .before .before .before .before .args .text .now) (c .before .before .before .before .before .before .before .before .before .before .before .before .before .before .before .before .before .before .before .args .name .stop) 40 (c .before .before .before .before .before .before .before .before .before .before .before .before .before .before .before .before .before .before .before .pre .1 .1 .inside) _ (sym (c .before .before .before .before .before .before .before .before .before .before .token-after .ensures) ∙ c .before .before .before .before .before .before .before .before .token .given .1)) _ _ (stops (c .before .refusal2 .given .1) (due-as (c .before .before .before .before .before .before .before .before .before .before .before .named-due .ensures) (c .before .before .before .before .before .read-value .ensures))) }
+read-identifier-returns-4 t c = record { is = name-stop (c .before .before .before .before .before .before .before .before .before .before .before .before .before .before .before .before .before .before .before .args .rules .sw) (c .before .before .before .before .before .before .before .before .before .before .before .before .before .before .before .before .before .before .before .args .rules .limits) (c .before .before .before .before .before .before .before .before .before .before .before .before .before .before .before .before .before .before .before .args .text .now) (c .before .before .before .before .before .before .before .before .before .before .before .before .before .before .before .before .before .before .before .args .name .span .start) (c .before .before .before .before .before .before .before .before .before .before .before .before .before .before .before .before .before .before .before .args .name .span .stop) (c .before .before .before .before .before .before .before .before .before .before .before .before .before .before .before .before .before .before .before .args .due .fresh) (c .before .before .before .before .before .before .before .before .before .before .before .before .before .before .before .before .before .before .before .args .due .any) (c .before .before .before .before .before .before .before .before .before .before .before .before .before .before .before .before .before .before .before .args .due .label) (c .before .before .before .before .before .before .before .before .before .before .before .before .before .before .before .before .before .before .before .args .due .spot .node) (c .before .before .before .before .before .before .before .before .before .before .before .before .before .before .before .before .before .before .before .args .due .spot .depth) (not-false (c .before .before .before .before .before .before .before .before .before .before .before .before .before .before .before .before .before .before .before .args .due .fresh) (c .before .before .before .before .before .before .before .before .before .before .before .before .before .before .before .if1 .left)) (c .before .before .before .before .before .before .before .before .before .before .before .before .if2 .left) (c .before .before .before .before .before .before .before .before .before .before .before .before .before .before .before .before .before .before .before .pre .1 .1 .ordered) _ (past-token (c .before .before .before .before .before .before .before .before .before .before .before .before .before .before .before .before .before .before .before .args .rules .sw) (c .before .before .before .before .before .before .before .before .before .before .before .before .before .before .before .before .before .before .before .args .text .now) (c .before .before .before .before .before .before .before .before .before .before .before .before .before .before .before .before .before .before .before .args .name .span .stop) 40 (c .before .before .before .before .before .before .before .before .before .before .before .before .before .before .before .before .before .before .before .pre .1 .1 .inside) _ (sym (c .before .before .before .before .before .before .before .before .before .before .token-after .ensures) ∙ c .before .before .before .before .before .before .before .before .token .given .1)) _ _ _ _ (stops (c .before .refusal2 .given .1) (due-as (c .before .before .before .before .before .before .before .before .before .before .before .named-due .ensures) (c .before .before .before .before .before .read-value .ensures))) }
 
 read-identifier-same-length-2 : (t : ℕ) → read-identifier-lts.Need-same-length-2 (read-identifier-calls t) (read-identifier-at t) read-identifier.Post
 read-identifier-same-length-2 t c = c .before .before .before .before .before .before .before .before .before .read-value .kept .1 .1 .0
 
 read-identifier-returns-5 : (t : ℕ) → read-identifier-lts.Need-returns-5 (read-identifier-calls t) (read-identifier-at t) read-identifier.Post
-read-identifier-returns-5 t c = record { is = name-shut-not (c .before .before .before .before .before .before .before .before .before .before .before .before .before .before .before .before .before .before .before .before .before .before .before .args .rules .sw) (c .before .before .before .before .before .before .before .before .before .before .before .before .before .before .before .before .before .before .before .before .before .before .before .args .rules .limits) (c .before .before .before .before .before .before .before .before .before .before .before .before .before .before .before .before .before .before .before .before .before .before .before .args .text .now) (c .before .before .before .before .before .before .before .before .before .before .before .before .before .before .before .before .before .before .before .before .before .before .before .args .name .start) (c .before .before .before .before .before .before .before .before .before .before .before .before .before .before .before .before .before .before .before .before .before .before .before .args .name .stop) (c .before .before .before .before .before .before .before .before .before .before .before .before .before .before .before .before .before .before .before .before .before .before .before .args .due .fresh) (c .before .before .before .before .before .before .before .before .before .before .before .before .before .before .before .before .before .before .before .before .before .before .before .args .due .any) (c .before .before .before .before .before .before .before .before .before .before .before .before .before .before .before .before .before .before .before .before .before .before .before .args .due .label) (c .before .before .before .before .before .before .before .before .before .before .before .before .before .before .before .before .before .before .before .before .before .before .before .args .due .spot .node) (c .before .before .before .before .before .before .before .before .before .before .before .before .before .before .before .before .before .before .before .before .before .before .before .args .due .spot .depth) (not-false (c .before .before .before .before .before .before .before .before .before .before .before .before .before .before .before .before .before .before .before .before .before .before .before .args .due .fresh) (c .before .before .before .before .before .before .before .before .before .before .before .before .before .before .before .before .before .before .before .if1 .left)) (c .before .before .before .before .before .before .before .before .before .before .before .before .before .before .before .before .if2 .left) (c .before .before .before .before .before .before .before .before .before .before .before .before .before .before .before .before .before .before .before .before .before .before .before .pre .1 .1 .ordered) _ (past-token (c .before .before .before .before .before .before .before .before .before .before .before .before .before .before .before .before .before .before .before .before .before .before .before .args .rules .sw) (c .before .before .before .before .before .before .before .before .before .before .before .before .before .before .before .before .before .before .before .before .before .before .before .args .text .now) (c .before .before .before .before .before .before .before .before .before .before .before .before .before .before .before .before .before .before .before .before .before .before .before .args .name .stop) 40 (c .before .before .before .before .before .before .before .before .before .before .before .before .before .before .before .before .before .before .before .before .before .before .before .pre .1 .1 .inside) _ (sym (c .before .before .before .before .before .before .before .before .before .before .before .before .before .before .token-after .ensures) ∙ c .before .before .before .before .before .before .before .before .before .before .before .before .token .given .1)) _ _ _ _ _ (took (c .before .before .before .before .before .stop .given .1) (due-as (c .before .before .before .before .before .before .before .before .before .before .before .before .before .before .before .named-due .ensures) (c .before .before .before .before .before .before .before .before .before .read-value .ensures))) _ _ (told-not ((took (c .before .before .before .before .before .stop .given .1) (due-as (c .before .before .before .before .before .before .before .before .before .before .before .before .before .before .before .named-due .ensures) (c .before .before .before .before .before .before .before .before .before .read-value .ensures))) .inside) (c .before .refusal3 .given .1) (c .before .before .before .one-mark .ensures)) }
+read-identifier-returns-5 t c = record { is = name-shut-not (c .before .before .before .before .before .before .before .before .before .before .before .before .before .before .before .before .before .before .before .before .before .before .before .args .rules .sw) (c .before .before .before .before .before .before .before .before .before .before .before .before .before .before .before .before .before .before .before .before .before .before .before .args .rules .limits) (c .before .before .before .before .before .before .before .before .before .before .before .before .before .before .before .before .before .before .before .before .before .before .before .args .text .now) (c .before .before .before .before .before .before .before .before .before .before .before .before .before .before .before .before .before .before .before .before .before .before .before .args .name .span .start) (c .before .before .before .before .before .before .before .before .before .before .before .before .before .before .before .before .before .before .before .before .before .before .before .args .name .span .stop) (c .before .before .before .before .before .before .before .before .before .before .before .before .before .before .before .before .before .before .before .before .before .before .before .args .due .fresh) (c .before .before .before .before .before .before .before .before .before .before .before .before .before .before .before .before .before .before .before .before .before .before .before .args .due .any) (c .before .before .before .before .before .before .before .before .before .before .before .before .before .before .before .before .before .before .before .before .before .before .before .args .due .label) (c .before .before .before .before .before .before .before .before .before .before .before .before .before .before .before .before .before .before .before .before .before .before .before .args .due .spot .node) (c .before .before .before .before .before .before .before .before .before .before .before .before .before .before .before .before .before .before .before .before .before .before .before .args .due .spot .depth) (not-false (c .before .before .before .before .before .before .before .before .before .before .before .before .before .before .before .before .before .before .before .before .before .before .before .args .due .fresh) (c .before .before .before .before .before .before .before .before .before .before .before .before .before .before .before .before .before .before .before .if1 .left)) (c .before .before .before .before .before .before .before .before .before .before .before .before .before .before .before .before .if2 .left) (c .before .before .before .before .before .before .before .before .before .before .before .before .before .before .before .before .before .before .before .before .before .before .before .pre .1 .1 .ordered) _ (past-token (c .before .before .before .before .before .before .before .before .before .before .before .before .before .before .before .before .before .before .before .before .before .before .before .args .rules .sw) (c .before .before .before .before .before .before .before .before .before .before .before .before .before .before .before .before .before .before .before .before .before .before .before .args .text .now) (c .before .before .before .before .before .before .before .before .before .before .before .before .before .before .before .before .before .before .before .before .before .before .before .args .name .span .stop) 40 (c .before .before .before .before .before .before .before .before .before .before .before .before .before .before .before .before .before .before .before .before .before .before .before .pre .1 .1 .inside) _ (sym (c .before .before .before .before .before .before .before .before .before .before .before .before .before .before .token-after .ensures) ∙ c .before .before .before .before .before .before .before .before .before .before .before .before .token .given .1)) _ _ _ _ _ (took (c .before .before .before .before .before .stop .given .1) (due-as (c .before .before .before .before .before .before .before .before .before .before .before .before .before .before .before .named-due .ensures) (c .before .before .before .before .before .before .before .before .before .read-value .ensures))) _ _ (told-not ((took (c .before .before .before .before .before .stop .given .1) (due-as (c .before .before .before .before .before .before .before .before .before .before .before .before .before .before .before .named-due .ensures) (c .before .before .before .before .before .before .before .before .before .read-value .ensures))) .inside) (c .before .refusal3 .given .1) (c .before .before .before .one-mark .ensures)) }
 
 read-identifier-same-length-3 : (t : ℕ) → read-identifier-lts.Need-same-length-3 (read-identifier-calls t) (read-identifier-at t) read-identifier.Post
 read-identifier-same-length-3 t c = c .before .before .put-stop .kept .0 ∙ c .before .before .before .before .before .before .before .before .before .before .before .before .before .read-value .kept .1 .1 .0
 
 read-identifier-returns-6 : (t : ℕ) → read-identifier-lts.Need-returns-6 (read-identifier-calls t) (read-identifier-at t) read-identifier.Post
-read-identifier-returns-6 t c = record { is = name-took (c .before .before .before .before .before .before .before .before .before .before .before .before .before .before .before .before .before .before .before .before .before .before .before .before .before .before .before .args .rules .sw) (c .before .before .before .before .before .before .before .before .before .before .before .before .before .before .before .before .before .before .before .before .before .before .before .before .before .before .before .args .rules .limits) (c .before .before .before .before .before .before .before .before .before .before .before .before .before .before .before .before .before .before .before .before .before .before .before .before .before .before .before .args .text .now) (c .before .before .before .before .before .before .before .before .before .before .before .before .before .before .before .before .before .before .before .before .before .before .before .before .before .before .before .args .name .start) (c .before .before .before .before .before .before .before .before .before .before .before .before .before .before .before .before .before .before .before .before .before .before .before .before .before .before .before .args .name .stop) (c .before .before .before .before .before .before .before .before .before .before .before .before .before .before .before .before .before .before .before .before .before .before .before .before .before .before .before .args .due .fresh) (c .before .before .before .before .before .before .before .before .before .before .before .before .before .before .before .before .before .before .before .before .before .before .before .before .before .before .before .args .due .any) (c .before .before .before .before .before .before .before .before .before .before .before .before .before .before .before .before .before .before .before .before .before .before .before .before .before .before .before .args .due .label) (c .before .before .before .before .before .before .before .before .before .before .before .before .before .before .before .before .before .before .before .before .before .before .before .before .before .before .before .args .due .spot .node) (c .before .before .before .before .before .before .before .before .before .before .before .before .before .before .before .before .before .before .before .before .before .before .before .before .before .before .before .args .due .spot .depth) (not-false (c .before .before .before .before .before .before .before .before .before .before .before .before .before .before .before .before .before .before .before .before .before .before .before .before .before .before .before .args .due .fresh) (c .before .before .before .before .before .before .before .before .before .before .before .before .before .before .before .before .before .before .before .before .before .before .before .if1 .left)) (c .before .before .before .before .before .before .before .before .before .before .before .before .before .before .before .before .before .before .before .before .if2 .left) (c .before .before .before .before .before .before .before .before .before .before .before .before .before .before .before .before .before .before .before .before .before .before .before .before .before .before .before .pre .1 .1 .ordered) _ (past-token (c .before .before .before .before .before .before .before .before .before .before .before .before .before .before .before .before .before .before .before .before .before .before .before .before .before .before .before .args .rules .sw) (c .before .before .before .before .before .before .before .before .before .before .before .before .before .before .before .before .before .before .before .before .before .before .before .before .before .before .before .args .text .now) (c .before .before .before .before .before .before .before .before .before .before .before .before .before .before .before .before .before .before .before .before .before .before .before .before .before .before .before .args .name .stop) 40 (c .before .before .before .before .before .before .before .before .before .before .before .before .before .before .before .before .before .before .before .before .before .before .before .before .before .before .before .pre .1 .1 .inside) _ (sym (c .before .before .before .before .before .before .before .before .before .before .before .before .before .before .before .before .before .before .token-after .ensures) ∙ c .before .before .before .before .before .before .before .before .before .before .before .before .before .before .before .before .token .given .1)) _ _ _ _ _ (took (c .before .before .before .before .before .before .before .before .before .stop .given .1) (due-as (c .before .before .before .before .before .before .before .before .before .before .before .before .before .before .before .before .before .before .before .named-due .ensures) (c .before .before .before .before .before .before .before .before .before .before .before .before .before .read-value .ensures))) (c .before .before .before .before .before .before .before .before .before .before .before .before .before .before .before .before .before .before .before .before .before .before .before .before .before .before .before .pre .1 .0 .unnamed (not-false (c .before .before .before .before .before .before .before .before .before .before .before .before .before .before .before .before .before .before .before .before .before .before .before .before .before .before .before .args .due .fresh) (c .before .before .before .before .before .before .before .before .before .before .before .before .before .before .before .before .before .before .before .before .before .before .before .if1 .left))) _ (told-at ((took (c .before .before .before .before .before .before .before .before .before .stop .given .1) (due-as (c .before .before .before .before .before .before .before .before .before .before .before .before .before .before .before .before .before .before .before .named-due .ensures) (c .before .before .before .before .before .before .before .before .before .before .before .before .before .read-value .ensures))) .inside) (c .before .before .before .before .before .end .given .1) (c .before .before .before .before .before .before .before .one-mark .ensures)) _ (c .before .before .put-stop .ensures) }
+read-identifier-returns-6 t c = record { is = name-took (c .before .before .before .before .before .before .before .before .before .before .before .before .before .before .before .before .before .before .before .before .before .before .before .before .before .before .before .args .rules .sw) (c .before .before .before .before .before .before .before .before .before .before .before .before .before .before .before .before .before .before .before .before .before .before .before .before .before .before .before .args .rules .limits) (c .before .before .before .before .before .before .before .before .before .before .before .before .before .before .before .before .before .before .before .before .before .before .before .before .before .before .before .args .text .now) (c .before .before .before .before .before .before .before .before .before .before .before .before .before .before .before .before .before .before .before .before .before .before .before .before .before .before .before .args .name .span .start) (c .before .before .before .before .before .before .before .before .before .before .before .before .before .before .before .before .before .before .before .before .before .before .before .before .before .before .before .args .name .span .stop) (c .before .before .before .before .before .before .before .before .before .before .before .before .before .before .before .before .before .before .before .before .before .before .before .before .before .before .before .args .due .fresh) (c .before .before .before .before .before .before .before .before .before .before .before .before .before .before .before .before .before .before .before .before .before .before .before .before .before .before .before .args .due .any) (c .before .before .before .before .before .before .before .before .before .before .before .before .before .before .before .before .before .before .before .before .before .before .before .before .before .before .before .args .due .label) (c .before .before .before .before .before .before .before .before .before .before .before .before .before .before .before .before .before .before .before .before .before .before .before .before .before .before .before .args .due .spot .node) (c .before .before .before .before .before .before .before .before .before .before .before .before .before .before .before .before .before .before .before .before .before .before .before .before .before .before .before .args .due .spot .depth) (not-false (c .before .before .before .before .before .before .before .before .before .before .before .before .before .before .before .before .before .before .before .before .before .before .before .before .before .before .before .args .due .fresh) (c .before .before .before .before .before .before .before .before .before .before .before .before .before .before .before .before .before .before .before .before .before .before .before .if1 .left)) (c .before .before .before .before .before .before .before .before .before .before .before .before .before .before .before .before .before .before .before .before .if2 .left) (c .before .before .before .before .before .before .before .before .before .before .before .before .before .before .before .before .before .before .before .before .before .before .before .before .before .before .before .pre .1 .1 .ordered) _ (past-token (c .before .before .before .before .before .before .before .before .before .before .before .before .before .before .before .before .before .before .before .before .before .before .before .before .before .before .before .args .rules .sw) (c .before .before .before .before .before .before .before .before .before .before .before .before .before .before .before .before .before .before .before .before .before .before .before .before .before .before .before .args .text .now) (c .before .before .before .before .before .before .before .before .before .before .before .before .before .before .before .before .before .before .before .before .before .before .before .before .before .before .before .args .name .span .stop) 40 (c .before .before .before .before .before .before .before .before .before .before .before .before .before .before .before .before .before .before .before .before .before .before .before .before .before .before .before .pre .1 .1 .inside) _ (sym (c .before .before .before .before .before .before .before .before .before .before .before .before .before .before .before .before .before .before .token-after .ensures) ∙ c .before .before .before .before .before .before .before .before .before .before .before .before .before .before .before .before .token .given .1)) _ _ _ _ _ (took (c .before .before .before .before .before .before .before .before .before .stop .given .1) (due-as (c .before .before .before .before .before .before .before .before .before .before .before .before .before .before .before .before .before .before .before .named-due .ensures) (c .before .before .before .before .before .before .before .before .before .before .before .before .before .read-value .ensures))) (c .before .before .before .before .before .before .before .before .before .before .before .before .before .before .before .before .before .before .before .before .before .before .before .before .before .before .before .pre .1 .0 .unnamed (not-false (c .before .before .before .before .before .before .before .before .before .before .before .before .before .before .before .before .before .before .before .before .before .before .before .before .before .before .before .args .due .fresh) (c .before .before .before .before .before .before .before .before .before .before .before .before .before .before .before .before .before .before .before .before .before .before .before .if1 .left))) _ (told-at ((took (c .before .before .before .before .before .before .before .before .before .stop .given .1) (due-as (c .before .before .before .before .before .before .before .before .before .before .before .before .before .before .before .before .before .before .before .named-due .ensures) (c .before .before .before .before .before .before .before .before .before .before .before .before .before .read-value .ensures))) .inside) (c .before .before .before .before .before .end .given .1) (c .before .before .before .before .before .before .before .one-mark .ensures)) _ (c .before .before .put-stop .ensures) }
 
 read-value-begin-of-requires : (t : ℕ) → read-value-lts.Need-begin-of-requires (read-value-calls t) (read-value-at t) read-value.Post
 read-value-begin-of-requires t c κs = (c .before .before .pre .1 .1 .0, c .before .before .pre .1 .1 .1)
@@ -322,7 +321,7 @@ read-value-returns-3 : (t : ℕ) → read-value-lts.Need-returns-3 (read-value-c
 read-value-returns-3 t c = begins-as (begun-as Z.Identifier (c .before .before .before .before .enum-told .given .1) (c .before .before .before .before .before .before .begin-of .ensures)) (c .before .before .read-identifier .ensures)
 
 read-value-returns-4 : (t : ℕ) → read-value-lts.Need-returns-4 (read-value-calls t) (read-value-at t) read-value.Post
-read-value-returns-4 t c = record { is = nothing-stops _ _ _ _ _ (c .before .before .before .before .before .args .due .fresh) (c .before .before .before .before .before .args .due .any) _ _ _ _ (begun-as Z.Nothing (c .enum-told2 .given .1) (c .before .before .begin-of .ensures)) }
+read-value-returns-4 t c = record { is = nothing-stops _ _ _ _ _ (c .before .before .before .before .before .args .due .fresh) (c .before .before .before .before .before .args .due .any) _ _ _ _ _ (begun-as Z.Nothing (c .enum-told2 .given .1) (c .before .before .begin-of .ensures)) }
 
 pub +read-container+read-identifier+read-value-spec : {M : Type 1} → statement M
 +read-container+read-identifier+read-value-spec =

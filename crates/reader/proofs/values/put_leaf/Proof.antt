@@ -10,6 +10,8 @@ use Rattle.reader.proofs.values.put_leaf.Lts as lts
 use Rattle.reader.proofs.rows.put_row.Reads as put-row-reads
 use Rattle.reader.proofs.values.is_full.Reads as is-full-reads
 
+
+
 is-full-requires : tie.Need-is-full-requires
 is-full-requires c κs = search needs
 
@@ -21,7 +23,7 @@ add-next : tie.Need-add-next
 add-next c = let w = node-left _ (c .before .before .before .before .before .args .due .fresh) (c .before .before .before .before .before .args .due .spot .node) (sym (c .before .before .is-full .ensures) ∙ c .before .if2 .left) (c .before .before .before .before .before .pre .0 .counted) in omega (arith, c .before .before .before .before .before .pre .0 .table .small)
 
 put-row-requires : tie.Need-put-row-requires
-put-row-requires c κs = let w = node-left _ (c .before .before .before .before .before .before .args .due .fresh) (c .before .before .before .before .before .before .args .due .spot .node) (sym (c .before .before .before .is-full .ensures) ∙ c .before .before .if2 .left) (c .before .before .before .before .before .before .pre .0 .counted) in record { row = omega (arith, c .before .before .before .before .before .before .pre .0 .table .room); label = c .before .before .before .before .before .before .pre .0 .label; stop-low = c .before .before .before .before .before .before .pre .1; next-low = omega (arith, c .before .before .before .before .before .before .pre .0 .table .small) }
+put-row-requires c κs = let w = node-left _ (c .before .before .before .before .before .before .args .due .fresh) (c .before .before .before .before .before .before .args .due .spot .node) (sym (c .before .before .before .is-full .ensures) ∙ c .before .before .if2 .left) (c .before .before .before .before .before .before .pre .0 .counted) in record { row = omega (arith, c .before .before .before .before .before .before .pre .0 .table .room); stop-low = c .before .before .before .before .before .before .pre .1; next-low = omega (arith, c .before .before .before .before .before .before .pre .0 .table .small) }
 
 same-length : tie.Need-same-length
 same-length c = omega arith

@@ -1,0 +1,24 @@
+use native.Mathlib.Omega.{arith}
+use mathlib.Core.Path.{ap}
+use mathlib.Core.Bool.{true, false}
+use Rattle.reader.specs.declared.tree.SpanWords.{SpanWords}
+use borrow.Author.Needs.{needs}
+use Rattle.reader.proofs.values.fresh_due.Statement.{statement}
+use Rattle.reader.proofs.values.fresh_due.Tie as tie
+use Rattle.reader.proofs.values.fresh_due.Reads as reads
+use Rattle.reader.proofs.values.fresh_due.Lts as lts
+use Rattle.reader.proofs.values.span_words.Reads as span-words-reads
+
+
+
+cast-t7 : tie.Need-cast-t7
+cast-t7 c = omega arith
+
+span-words-requires : tie.Need-span-words-requires
+span-words-requires c κs = search needs
+
+returns : tie.Need-returns
+returns c = ap (λ (key : SpanWords). record { any = c .before .args .any; fresh = true; label = record { start = c .before .args .start; key = key; name = record { start = 0; stop = 0 } }; spot = c .before .args .spot }) (c .span-words .ensures)
+
+pub fresh-due-spec : {M : Type 1} → statement M
+fresh-due-spec = tie.close (tie.spec cast-t7 span-words-requires returns)
