@@ -55,20 +55,20 @@ Within sw limits s kind l ω o d n tin ts ks i m z tab = Body sw limits s kind l
 
 -- ---- answers by their cases
 
-module _ {rules : Rules} {s : List ℕ} {due : Due} {t : CT.Token} {b : Begins} {tin tout : List ℕ} {r : Answer} where
-  pub took : {j m : ℕ} → r ≡ A.Done j m → ReadAs rules s due t b tin tout r
-      → Took (rules .sw) (rules .limits) s (openedBy rules s due t b) (labelOf (due .label)) (t .span .start) (due .spot .depth) (due .spot .parent) (due .spot .node) tin tout j m
-  took e h = subst (RanIs (rules .sw) (rules .limits) s (openedBy rules s due t b) (labelOf (due .label)) (t .span .start) (due .spot .depth) (due .spot .parent) (due .spot .node) tin tout) e (h .is)
+module _ {rules : Rules} {s : List ℕ} {due : Due} {p : CS.Span} {b : Begins} {tin tout : List ℕ} {r : Answer} where
+  pub took : {j m : ℕ} → r ≡ A.Done j m → ReadAs rules s due p b tin tout r
+      → Took (rules .sw) (rules .limits) s (openedBy rules s due p b) (labelOf (due .label)) (p .start) (due .spot .depth) (due .spot .parent) (due .spot .node) tin tout j m
+  took e h = subst (RanIs (rules .sw) (rules .limits) s (openedBy rules s due p b) (labelOf (due .label)) (p .start) (due .spot .depth) (due .spot .parent) (due .spot .node) tin tout) e (h .is)
 
-  pub stops : {f : Refusal} → r ≡ A.Refused f → ReadAs rules s due t b tin tout r → Stops (openedBy rules s due t b) (due .spot .depth) (due .spot .node) tin tout (f .number) (f .place)
-  stops e h = subst (RanIs (rules .sw) (rules .limits) s (openedBy rules s due t b) (labelOf (due .label)) (t .span .start) (due .spot .depth) (due .spot .parent) (due .spot .node) tin tout) e (h .is)
+  pub stops : {f : Refusal} → r ≡ A.Refused f → ReadAs rules s due p b tin tout r → Stops (openedBy rules s due p b) (due .spot .depth) (due .spot .node) tin tout (f .number) (f .place)
+  stops e h = subst (RanIs (rules .sw) (rules .limits) s (openedBy rules s due p b) (labelOf (due .label)) (p .start) (due .spot .depth) (due .spot .parent) (due .spot .node) tin tout) e (h .is)
 
   -- the value that is due, or its token's beginning, by another name
-  pub due-as : {other : Due} → due ≡ other → ReadAs rules s due t b tin tout r → ReadAs rules s other t b tin tout r
-  due-as e h = subst (λ (d : Due). ReadAs rules s d t b tin tout r) e h
+  pub due-as : {other : Due} → due ≡ other → ReadAs rules s due p b tin tout r → ReadAs rules s other p b tin tout r
+  due-as e h = subst (λ (d : Due). ReadAs rules s d p b tin tout r) e h
 
-  pub begins-as : {other : Begins} → other ≡ b → ReadAs rules s due t b tin tout r → ReadAs rules s due t other tin tout r
-  begins-as e h = subst (λ (x : Begins). ReadAs rules s due t x tin tout r) (sym e) h
+  pub begins-as : {other : Begins} → other ≡ b → ReadAs rules s due p b tin tout r → ReadAs rules s due p other tin tout r
+  begins-as e h = subst (λ (x : Begins). ReadAs rules s due p x tin tout r) (sym e) h
 
 module _ {sw : Switches} {s : List ℕ} {kind : Kind} {tab : List ℕ} {c : Children} {i : ℕ} {r : Item} where
   pub value-is : {x : ℕ} {t : CT.Token} {key : CS.Span} → c .first ≡ x → r ≡ I.Value t key → Values.ItemAt sw s kind tab c i r
@@ -87,16 +87,16 @@ module _ {sw : Switches} {s : List ℕ} {kind : Kind} {tab : List ℕ} {c : Chil
 
 -- ---- a value that is due afresh
 
-module _ {rules : Rules} {s : List ℕ} {any : Bool} {key : CS.Span} {spot : Spot} {due : Due} {t : CT.Token} {tin tout : List ℕ} {r : Answer} where
-  pub fresh-took : {j m : ℕ} → due ≡ freshDue any (t .span .start) key spot → r ≡ A.Done j m → ReadAs rules s due t (beginsAt (rules .sw) s t) tin tout r
-      → Took (rules .sw) (rules .limits) s (openedHere (rules .sw) (rules .limits) s (t .span .start) (t .span .stop) any (spanAt (key .start) (key .stop)) (spot .node)) (label (t .span .start) (spanAt (key .start) (key .stop)) none) (t .span .start) (spot .depth) (spot .parent) (spot .node) tin tout j m
+module _ {rules : Rules} {s : List ℕ} {any : Bool} {key : CS.Span} {spot : Spot} {due : Due} {p : CS.Span} {tin tout : List ℕ} {r : Answer} where
+  pub fresh-took : {j m : ℕ} → due ≡ freshDue any (p .start) key spot → r ≡ A.Done j m → ReadAs rules s due p (beginsAt (rules .sw) s p) tin tout r
+      → Took (rules .sw) (rules .limits) s (openedHere (rules .sw) (rules .limits) s (p .start) (p .stop) any (spanAt (key .start) (key .stop)) (spot .node)) (label (p .start) (spanAt (key .start) (key .stop)) none) (p .start) (spot .depth) (spot .parent) (spot .node) tin tout j m
   unfolding labelOf spanAt
-  fresh-took e q h = took q (due-as {other = freshDue any (t .span .start) key spot} e h)
+  fresh-took e q h = took q (due-as {other = freshDue any (p .start) key spot} e h)
 
-  pub fresh-stops : {f : Refusal} → due ≡ freshDue any (t .span .start) key spot → r ≡ A.Refused f → ReadAs rules s due t (beginsAt (rules .sw) s t) tin tout r
-      → Stops (openedHere (rules .sw) (rules .limits) s (t .span .start) (t .span .stop) any (spanAt (key .start) (key .stop)) (spot .node)) (spot .depth) (spot .node) tin tout (f .number) (f .place)
+  pub fresh-stops : {f : Refusal} → due ≡ freshDue any (p .start) key spot → r ≡ A.Refused f → ReadAs rules s due p (beginsAt (rules .sw) s p) tin tout r
+      → Stops (openedHere (rules .sw) (rules .limits) s (p .start) (p .stop) any (spanAt (key .start) (key .stop)) (spot .node)) (spot .depth) (spot .node) tin tout (f .number) (f .place)
   unfolding labelOf spanAt
-  fresh-stops e q h = stops q (due-as {other = freshDue any (t .span .start) key spot} e h)
+  fresh-stops e q h = stops q (due-as {other = freshDue any (p .start) key spot} e h)
 
 pub fresh-ready : {limits : Limits} {tab : List ℕ} {any : Bool} {start : ℕ} {key : CS.Span} {spot : Spot} {due : Due} → due ≡ freshDue any start key spot
     → Roomy limits tab → spot .node ≤ limits .nodes → (key .stop ≡ 0 → key .start ≡ 0) → Ready limits tab due
@@ -247,19 +247,19 @@ module _ {sw : Switches} {limits : Limits} {s : List ℕ} {kind : Kind} {l : Lab
   body-off {ts} {ks} {i} {m} B A = record { ran = λ stack h. B .ran stack h ∙ A .ran limits l ts ks stack m; kept = body-kept B }
 
 -- the container's row is written
-pub body-took : {rules : Rules} {s : List ℕ} {due : Due} {t : CT.Token} {kind : Kind} {tin : List ℕ} {ts : Forest} {ks : List (List ℕ)} {j m z : ℕ} {tab out : List ℕ} {r : Answer}
+pub body-took : {rules : Rules} {s : List ℕ} {due : Due} {p : CS.Span} {kind : Kind} {tin : List ℕ} {ts : Forest} {ks : List (List ℕ)} {j m z : ℕ} {tab out : List ℕ} {r : Answer}
     → SpansApart (due .label)
-    → Body (rules .sw) (rules .limits) s kind (labelOf (due .label)) (openedBy rules s due t (container kind)) (t .span .start) (due .spot .depth) (due .spot .node) tin ts ks (λ stack. ended stack m (labelOf (due .label) .name) (branch (headBy (labelOf (due .label)) j) kind ts)) j m z tab
-    → r ≡ A.Done j m → out ≡ sets tab (nodeWords * due .spot .node) (rowOf due (branchWords kind z) j m) → ReadAs rules s due t (container kind) tin out r
+    → Body (rules .sw) (rules .limits) s kind (labelOf (due .label)) (openedBy rules s due p (container kind)) (p .start) (due .spot .depth) (due .spot .node) tin ts ks (λ stack. ended stack m (labelOf (due .label) .name) (branch (headBy (labelOf (due .label)) j) kind ts)) j m z tab
+    → r ≡ A.Done j m → out ≡ sets tab (nodeWords * due .spot .node) (rowOf due (branchWords kind z) j m) → ReadAs rules s due p (container kind) tin out r
 unfolding size headOf headBy
-body-took {rules} {s} {due} {t} {kind} {tin} {ts} {ks} {j} {m} {z} {tab} {out} {r} ok B e v =
+body-took {rules} {s} {due} {p} {kind} {tin} {ts} {ks} {j} {m} {z} {tab} {out} {r} ok B e v =
     record {
       is =
-          subst (RanIs (rules .sw) (rules .limits) s (openedBy rules s due t (container kind)) (labelOf (due .label)) (t .span .start) (due .spot .depth) (due .spot .parent) (due .spot .node) tin out)
+          subst (RanIs (rules .sw) (rules .limits) s (openedBy rules s due p (container kind)) (labelOf (due .label)) (p .start) (due .spot .depth) (due .spot .parent) (due .spot .node) tin out)
           (sym e) done;
     }
   where
-    done : Took (rules .sw) (rules .limits) s (openedBy rules s due t (container kind)) (labelOf (due .label)) (t .span .start) (due .spot .depth) (due .spot .parent) (due .spot .node) tin out j m
+    done : Took (rules .sw) (rules .limits) s (openedBy rules s due p (container kind)) (labelOf (due .label)) (p .start) (due .spot .depth) (due .spot .parent) (due .spot .node) tin out j m
     done =
         record {
           tree = branch (headBy (labelOf (due .label)) j) kind ts;

@@ -21,6 +21,7 @@ use Rattle.reader.specs.declared.tree.Rules.{Rules}
 use Rattle.reader.specs.declared.tree.Due.{Due}
 use Rattle.reader.specs.declared.tree.Label as CL
 use Rattle.lexer.specs.declared.item.Token as CT
+use Rattle.text.specs.declared.span.Span as CS
 use Rattle.reader.specs.declared.tree.Begin.{Begin}
 use Rattle.reader.specs.declared.items.Ahead.the-variants as H
 use Rattle.reader.specs.declared.values.Answer.{Answer}
@@ -94,26 +95,26 @@ module _ (sw : Switches) (limits : Limits) (s : List ℕ) (start stop : ℕ) (fr
       }
 
 -- what `put_leaf` has answered and written
-pub leaf-read : {rules : Rules} {s : List ℕ} {due : Due} {t : CT.Token} {w : Words} {tin tout : List ℕ} {r : Answer} → Ready (rules .limits) tin due → Placed s t
-    → LeafIs (rules .sw) s (t .span .start) (t .span .stop) w → r ≡ leafAnswer (rules .limits) due t → tout ≡ leafTable (rules .limits) due t w tin
-    → ReadAs rules s due t (beginsAt (rules .sw) s t) tin tout r
+pub leaf-read : {rules : Rules} {s : List ℕ} {due : Due} {p : CS.Span} {w : Words} {tin tout : List ℕ} {r : Answer} → Ready (rules .limits) tin due → Placed s p
+    → LeafIs (rules .sw) s (p .start) (p .stop) w → r ≡ leafAnswer (rules .limits) due p → tout ≡ leafTable (rules .limits) due p w tin
+    → ReadAs rules s due p (beginsAt (rules .sw) s p) tin tout r
 unfolding leafAnswer leafTable
-leaf-read {rules} {s} {due} {t} {w} {tin} {tout} {r} R P W e v = by (due .any) (isFull (rules .limits) due) refl refl e v
+leaf-read {rules} {s} {due} {p} {w} {tin} {tout} {r} R P W e v = by (due .any) (isFull (rules .limits) due) refl refl e v
   where
-    same-table : {number place : ℕ} → tout ≡ tin → Stops (openedBy rules s due t (beginsAt (rules .sw) s t)) (due .spot .depth) (due .spot .node) tin tin number place
-        → Stops (openedBy rules s due t (beginsAt (rules .sw) s t)) (due .spot .depth) (due .spot .node) tin tout number place
+    same-table : {number place : ℕ} → tout ≡ tin → Stops (openedBy rules s due p (beginsAt (rules .sw) s p)) (due .spot .depth) (due .spot .node) tin tin number place
+        → Stops (openedBy rules s due p (beginsAt (rules .sw) s p)) (due .spot .depth) (due .spot .node) tin tout number place
     same-table q S = record { ran = S .ran; kept = λ x h. ap (λ (l : List ℕ). getD l x 0) q }
 
     by : (a f : Bool) → due .any ≡ a → isFull (rules .limits) due ≡ f
-        → r ≡ cond a (cond f (A.Refused (refusal 10 (t .span .start))) (A.Done (t .span .stop) (due .spot .node + 1))) (A.Refused (refusal 7 (t .span .start)))
-        → tout ≡ cond a (cond f tin (sets tin (nodeWords * due .spot .node) (rowOf due w (t .span .stop) (due .spot .node + 1)))) tin
-        → ReadAs rules s due t (beginsAt (rules .sw) s t) tin tout r
+        → r ≡ cond a (cond f (A.Refused (refusal 10 (p .start))) (A.Done (p .stop) (due .spot .node + 1))) (A.Refused (refusal 7 (p .start)))
+        → tout ≡ cond a (cond f tin (sets tin (nodeWords * due .spot .node) (rowOf due w (p .stop) (due .spot .node + 1)))) tin
+        → ReadAs rules s due p (beginsAt (rules .sw) s p) tin tout r
     by true true a f q u =
-        record { is = subst (RanIs (rules .sw) (rules .limits) s (openedBy rules s due t (beginsAt (rules .sw) s t)) (labelOf (due .label)) (t .span .start) (due .spot .depth) (due .spot .parent) (due .spot .node) tin tout) (sym q) (same-table u (leaf-full (rules .sw) (rules .limits) s (t .span .start) (t .span .stop) (due .fresh) (due .any) (due .label) (due .spot .node) (due .spot .depth) w W a f tin)) }
+        record { is = subst (RanIs (rules .sw) (rules .limits) s (openedBy rules s due p (beginsAt (rules .sw) s p)) (labelOf (due .label)) (p .start) (due .spot .depth) (due .spot .parent) (due .spot .node) tin tout) (sym q) (same-table u (leaf-full (rules .sw) (rules .limits) s (p .start) (p .stop) (due .fresh) (due .any) (due .label) (due .spot .node) (due .spot .depth) w W a f tin)) }
     by true false a f q u =
-        record { is = subst (RanIs (rules .sw) (rules .limits) s (openedBy rules s due t (beginsAt (rules .sw) s t)) (labelOf (due .label)) (t .span .start) (due .spot .depth) (due .spot .parent) (due .spot .node) tin tout) (sym q) (leaf-took (rules .sw) (rules .limits) s (t .span .start) (t .span .stop) (due .fresh) (due .any) (due .label) (due .spot .node) (due .spot .depth) w W (R .label) a f (node-left (rules .limits .nodes) (due .fresh) (due .spot .node) f (R .counted)) (P .ordered) (P .inside) (due .spot .parent) tin tout u) }
+        record { is = subst (RanIs (rules .sw) (rules .limits) s (openedBy rules s due p (beginsAt (rules .sw) s p)) (labelOf (due .label)) (p .start) (due .spot .depth) (due .spot .parent) (due .spot .node) tin tout) (sym q) (leaf-took (rules .sw) (rules .limits) s (p .start) (p .stop) (due .fresh) (due .any) (due .label) (due .spot .node) (due .spot .depth) w W (R .label) a f (node-left (rules .limits .nodes) (due .fresh) (due .spot .node) f (R .counted)) (P .ordered) (P .inside) (due .spot .parent) tin tout u) }
     by false f a g q u =
-        record { is = subst (RanIs (rules .sw) (rules .limits) s (openedBy rules s due t (beginsAt (rules .sw) s t)) (labelOf (due .label)) (t .span .start) (due .spot .depth) (due .spot .parent) (due .spot .node) tin tout) (sym q) (same-table u (leaf-not (rules .sw) (rules .limits) s (t .span .start) (t .span .stop) (due .fresh) (due .any) (due .label) (due .spot .node) (due .spot .depth) w W a tin)) }
+        record { is = subst (RanIs (rules .sw) (rules .limits) s (openedBy rules s due p (beginsAt (rules .sw) s p)) (labelOf (due .label)) (p .start) (due .spot .depth) (due .spot .parent) (due .spot .node) tin tout) (sym q) (same-table u (leaf-not (rules .sw) (rules .limits) s (p .start) (p .stop) (due .fresh) (due .any) (due .label) (due .spot .node) (due .spot .depth) w W a tin)) }
 
 -- ---- tokens that begin nothing
 
@@ -137,8 +138,8 @@ unfolding labelOf spanAt
 no-name p e = rw (eq-eqb (p .name .stop) 0 e)
 
 -- the value in the bracket of an identifier is due
-pub named-ready : {limits : Limits} {s tab : List ℕ} {due other : Due} {t : CT.Token} → other ≡ namedDue due (t .span) → Ready limits tab due → Placed s t → due .spot .node < limits .nodes → Ready limits tab other
-named-ready {limits} {s} {tab} {due} {other} {t} e R P h =
+pub named-ready : {limits : Limits} {s tab : List ℕ} {due other : Due} {name : CS.Span} → other ≡ namedDue due name → Ready limits tab due → Placed s name → due .spot .node < limits .nodes → Ready limits tab other
+named-ready {limits} {s} {tab} {due} {other} {name} e R P h =
     let o = P .ordered in
     subst (Ready limits tab) (sym e)
     (record {
@@ -206,17 +207,17 @@ module _ (sw : Switches) (limits : Limits) (s : List ℕ) (start stop : ℕ) (fr
         }
 
     module _ (t : CT.Token) (q : Past sw s stop 40 t) where
-      name-open : (stack : List Frame) → opened sw limits s start stop fresh any (labelOf p) n identifier stack ≡ opened sw limits s (t .span .start) (t .span .stop) false any (labelOf r) n (beginsAt sw s t) stack
+      name-open : (stack : List Frame) → opened sw limits s start stop fresh any (labelOf p) n identifier stack ≡ opened sw limits s (t .span .start) (t .span .stop) false any (labelOf r) n (beginsAt sw s (t .span)) stack
       name-open stack =
           name-run stack
           ∙ mark-go sw limits s stop (config stack (named any (labelOf r)) (suc n)) 40 (q .place) (config stack (inner any (labelOf r)) (suc n)) (q .mark) (named-goes stack (q .mark .start) (q .place))
           ∙ inner-run sw limits s (q .place) any (labelOf r) n (t .kind) (t .span .start) (t .span .stop) (q .token) stack
 
-      pub name-stop : (tin out : List ℕ) (number place : ℕ) → Stops (opened sw limits s (t .span .start) (t .span .stop) false any (labelOf r) n (beginsAt sw s t)) d n tin out number place
+      pub name-stop : (tin out : List ℕ) (number place : ℕ) → Stops (opened sw limits s (t .span .start) (t .span .stop) false any (labelOf r) n (beginsAt sw s (t .span))) d n tin out number place
           → Stops (opened sw limits s start stop fresh any (labelOf p) n identifier) d n tin out number place
       name-stop tin out number place T = record { ran = λ stack y. name-open stack ∙ T .ran stack y; kept = T .kept }
 
-      module _ (parent : ℕ) (tin out : List ℕ) (j m : ℕ) (T : Took sw limits s (opened sw limits s (t .span .start) (t .span .stop) false any (labelOf r) n (beginsAt sw s t)) (labelOf r) (t .span .start) d parent n tin out j m) where
+      module _ (parent : ℕ) (tin out : List ℕ) (j m : ℕ) (T : Took sw limits s (opened sw limits s (t .span .start) (t .span .stop) false any (labelOf r) n (beginsAt sw s (t .span))) (labelOf r) (t .span .start) d parent n tin out j m) where
         closed-run : (stack : List Frame) → length stack ≡ d → opened sw limits s start stop fresh any (labelOf p) n identifier stack ≡ runFrom sw limits s j (config stack (close (T .tree)) m)
         unfolding ended
         closed-run stack y =

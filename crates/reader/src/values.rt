@@ -137,13 +137,13 @@ fn is_full(limits: Limits, due: Due) -> bool
 // ---- rows
 
 // A value that holds no others, with its own words.
-fn put_leaf(limits: Limits, table: &mut [u32], due: Due, token: Token, words: Words) -> Answer
+fn put_leaf(limits: Limits, table: &mut [u32], due: Due, span: Span, words: Words) -> Answer
     requires { ⌜ Ready limits (now table) due ⌝ }
-    requires { ⌜ token .span .stop ≤ maxText ⌝ }
-    ensures { λ r. ⌜ r ≡ leafAnswer limits due token ⌝ }
-    ensures { λ _. ⌜ now (table .exit) ≡ leafTable limits due token words (now (table .entry)) ⌝ }
+    requires { ⌜ span .stop ≤ maxText ⌝ }
+    ensures { λ r. ⌜ r ≡ leafAnswer limits due span ⌝ }
+    ensures { λ _. ⌜ now (table .exit) ≡ leafTable limits due span words (now (table .entry)) ⌝ }
 {
-    let place = token.span.start;
+    let place = span.start;
     if due.any {
         if is_full(limits, due) {
             return Answer::Refused(Refusal {
@@ -152,8 +152,8 @@ fn put_leaf(limits: Limits, table: &mut [u32], due: Due, token: Token, words: Wo
             });
         }
         let next = due.spot.node + 1;
-        put_row(table, due, words, token.span.stop, next);
-        return Answer::Done(token.span.stop, next);
+        put_row(table, due, words, span.stop, next);
+        return Answer::Done(span.stop, next);
     }
     Answer::Refused(Refusal {
         number: UNEXPECTED,
@@ -191,13 +191,13 @@ pub(crate) fn read_value(
     requires { ⌜ Ready (rules .limits) (now table) due ⌝ }
     requires { ⌜ IsToken (rules .sw) (now text) token ⌝ }
     requires { ⌜ length (now text) ≤ maxText ⌝ }
-    ensures { λ r. ⌜ ReadAs rules (now (text .entry)) due token (beginsAt (rules .sw) (now (text .entry)) token) (now (table .entry)) (now (table .exit)) r ⌝ }
+    ensures { λ r. ⌜ ReadAs rules (now (text .entry)) due (token .span) (beginsAt (rules .sw) (now (text .entry)) (token .span)) (now (table .entry)) (now (table .exit)) r ⌝ }
 {
     let place = token.span.start;
     match begin_of(rules.sw, text, token) {
-        Begin::Container(kind) => read_container(rules, text, table, due, kind, token),
-        Begin::Scalar(words) => put_leaf(rules.limits, table, due, token, words),
-        Begin::Identifier => read_identifier(rules, text, table, due, token),
+        Begin::Container(kind) => read_container(rules, text, table, due, kind, token.span),
+        Begin::Scalar(words) => put_leaf(rules.limits, table, due, token.span, words),
+        Begin::Identifier => read_identifier(rules, text, table, due, token.span),
         Begin::Nothing => Answer::Refused(Refusal {
             number: UNEXPECTED,
             place,
@@ -212,13 +212,13 @@ fn read_container(
     table: &mut [u32],
     due: Due,
     kind: Kind,
-    bracket: Token,
+    bracket: Span,
 ) -> Answer
     requires { ⌜ Ready (rules .limits) (now table) due ⌝ }
     requires { ⌜ Placed (now text) bracket ⌝ }
     ensures { λ r. ⌜ ReadAs rules (now (text .entry)) due bracket (container kind) (now (table .entry)) (now (table .exit)) r ⌝ }
 {
-    let place = bracket.span.start;
+    let place = bracket.start;
     let spot = due.spot;
     if rules.limits.depth <= spot.depth {
         return Answer::Refused(Refusal {
@@ -233,7 +233,7 @@ fn read_container(
         });
     }
     let first = spot.node + 1;
-    let mut from = bracket.span.stop;
+    let mut from = bracket.stop;
     let mut children = Children {
         first,
         next: first,
@@ -263,12 +263,12 @@ fn read_container(
 }
 
 // The identifier with this name, and the value in its bracket.
-fn read_identifier(rules: Rules, text: &[u8], table: &mut [u32], due: Due, name: Token) -> Answer
+fn read_identifier(rules: Rules, text: &[u8], table: &mut [u32], due: Due, name: Span) -> Answer
     requires { ⌜ Ready (rules .limits) (now table) due ⌝ }
     requires { ⌜ Placed (now text) name ⌝ }
     ensures { λ r. ⌜ ReadAs rules (now (text .entry)) due name identifier (now (table .entry)) (now (table .exit)) r ⌝ }
 {
-    let place = name.span.start;
+    let place = name.start;
     if !due.fresh {
         return Answer::Refused(Refusal {
             number: UNEXPECTED,
@@ -281,8 +281,8 @@ fn read_identifier(rules: Rules, text: &[u8], table: &mut [u32], due: Due, name:
             place,
         });
     }
-    let inner = named_due(due, name.span);
-    match token_after(rules.sw, text, name.span.stop, b'(') {
+    let inner = named_due(due, name);
+    match token_after(rules.sw, text, name.stop, b'(') {
         Ahead::Refused(refusal) => Answer::Refused(refusal),
         Ahead::Token(token) => match read_value(rules, text, table, inner, token) {
             Answer::Refused(refusal) => Answer::Refused(refusal),

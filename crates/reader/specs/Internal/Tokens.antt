@@ -14,6 +14,7 @@ use Rattle.lexer.specs.Token as L
 use Rattle.lexer.specs.Token.{Form, Item, Token, itemAt}
 use Rattle.lexer.specs.Answer.{kindOf}
 use Rattle.reader.specs.declared.tree.Kind.the-variants.{Object, Array, Tuple}
+use Rattle.text.specs.declared.span.Span as CS
 use Rattle.lexer.specs.declared.item.Token as CT
 use Rattle.reader.specs.declared.tree.Words.{Words}
 use Rattle.reader.specs.declared.tree.Begin.{Begin}
@@ -46,9 +47,9 @@ pub record TokenAt (sw : Switches) (s : List ℕ) (k : TokenKind) (start stop : 
 abbrev pub IsToken : Switches → List ℕ → CT.Token → Type 0
 IsToken sw s t = TokenAt sw s (t .kind) (t .span .start) (t .span .stop)
 
--- what the code's token is the first of
-abbrev pub beginsAt : Switches → List ℕ → CT.Token → Begins
-beginsAt sw s t = begins (spanOf (tokenAt sw s (t .span .start) (t .span .stop))) (formAt sw s (t .span .start))
+-- what the token of this span is the first of
+abbrev pub beginsAt : Switches → List ℕ → CS.Span → Begins
+beginsAt sw s p = begins (spanOf (tokenAt sw s (p .start) (p .stop))) (formAt sw s (p .start))
 
 -- a scalar's own words, as the code carries them
 unfoldable pub leafOf : Scalar → Words

@@ -227,9 +227,9 @@ pub record Ready (limits : Limits) (tab : List ℕ) (due : Due) : Type 0 where
   pub unnamed : due .fresh ≡ true → due .label .name .stop ≡ 0
 
 -- a token's place in a text that is not too long
-pub record Placed (s : List ℕ) (t : CT.Token) : Type 0 where
-  pub ordered : t .span .start < t .span .stop
-  pub inside : t .span .stop ≤ length s
+pub record Placed (s : List ℕ) (span : CS.Span) : Type 0 where
+  pub ordered : span .start < span .stop
+  pub inside : span .stop ≤ length s
   pub short : length s ≤ maxText
 
 -- a value that is due has no node left
@@ -237,15 +237,15 @@ abbrev pub isFull : Limits → Due → Bool
 isFull limits due = due .fresh && leb (limits .nodes) (due .spot .node)
 
 -- a value that holds no others, by its token: 7 where a container is due, 10
-unfoldable pub leafAnswer : Limits → Due → CT.Token → Answer
-leafAnswer limits due t =
-    cond (due .any) (cond (isFull limits due) (A.Refused (refusal 10 (t .span .start))) (A.Done (t .span .stop) (due .spot .node + 1)))
-    (A.Refused (refusal 7 (t .span .start)))
+unfoldable pub leafAnswer : Limits → Due → CS.Span → Answer
+leafAnswer limits due span =
+    cond (due .any) (cond (isFull limits due) (A.Refused (refusal 10 (span .start))) (A.Done (span .stop) (due .spot .node + 1)))
+    (A.Refused (refusal 7 (span .start)))
 
 -- the table then
-unfoldable pub leafTable : Limits → Due → CT.Token → Words → List ℕ → List ℕ
-leafTable limits due t w tab =
-    cond (due .any) (cond (isFull limits due) tab (sets tab (nodeWords * due .spot .node) (rowOf due w (t .span .stop) (due .spot .node + 1)))) tab
+unfoldable pub leafTable : Limits → Due → CS.Span → Words → List ℕ → List ℕ
+leafTable limits due span w tab =
+    cond (due .any) (cond (isFull limits due) tab (sets tab (nodeWords * due .spot .node) (rowOf due w (span .stop) (due .spot .node + 1)))) tab
 
 -- a value with the label l was read up to j, and its identifier's bracket is still due if it has one
 pub record Took (sw : Switches) (limits : Limits) (s : List ℕ) (ω : List Frame → Outcome) (l : Label) (o d parent n : ℕ) (tin tout : List ℕ) (j m : ℕ) : Type 0 where
@@ -271,9 +271,9 @@ RanIs sw limits s ω l o d parent n tin tout (A.Done j m) = Took sw limits s ω 
 RanIs sw limits s ω l o d parent n tin tout (A.Refused f) = Stops ω d n tin tout (f .number) (f .place)
 
 -- what the text comes to where a value is due, and its token begins b
-abbrev pub openedBy : Rules → List ℕ → Due → CT.Token → Begins → List Frame → Outcome
-openedBy rules s due t b = opened (rules .sw) (rules .limits) s (t .span .start) (t .span .stop) (due .fresh) (due .any) (labelOf (due .label)) (due .spot .node) b
+abbrev pub openedBy : Rules → List ℕ → Due → CS.Span → Begins → List Frame → Outcome
+openedBy rules s due span b = opened (rules .sw) (rules .limits) s (span .start) (span .stop) (due .fresh) (due .any) (labelOf (due .label)) (due .spot .node) b
 
 -- the value that is due was read, or refused, from a token that begins b
-pub record ReadAs (rules : Rules) (s : List ℕ) (due : Due) (t : CT.Token) (b : Begins) (tin tout : List ℕ) (r : Answer) : Type 0 where
-  pub is : RanIs (rules .sw) (rules .limits) s (openedBy rules s due t b) (labelOf (due .label)) (t .span .start) (due .spot .depth) (due .spot .parent) (due .spot .node) tin tout r
+pub record ReadAs (rules : Rules) (s : List ℕ) (due : Due) (span : CS.Span) (b : Begins) (tin tout : List ℕ) (r : Answer) : Type 0 where
+  pub is : RanIs (rules .sw) (rules .limits) s (openedBy rules s due span b) (labelOf (due .label)) (span .start) (due .spot .depth) (due .spot .parent) (due .spot .node) tin tout r

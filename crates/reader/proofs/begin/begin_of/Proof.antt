@@ -16,8 +16,6 @@ use Rattle.reader.proofs.begin.integer_leaf.Reads as integer-leaf-reads
 use Rattle.reader.proofs.begin.mark_begin.Reads as mark-begin-reads
 use Rattle.reader.proofs.begin.word_begin.Reads as word-begin-reads
 
-
-
 enum-known-kind : tie.Need-enum-known-kind
 enum-known-kind c = search needs
 

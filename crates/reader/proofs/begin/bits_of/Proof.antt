@@ -6,8 +6,6 @@ use Rattle.reader.proofs.begin.bits_of.Tie as tie
 use Rattle.reader.proofs.begin.bits_of.Reads as reads
 use Rattle.reader.proofs.begin.bits_of.Lts as lts
 
-
-
 sub-below : tie.Need-sub-below
 sub-below c = rw (over (c .before .args .value) (c .before .fits .value) (c .if1 .taken)) (record { sfits = c .before .fits .value .sfits })
 

@@ -10,8 +10,6 @@ use Rattle.reader.proofs.begin.integer_leaf.Reads as reads
 use Rattle.reader.proofs.begin.integer_leaf.Lts as lts
 use Rattle.reader.proofs.begin.bits_of.Reads as bits-of-reads
 
-
-
 bits-of-requires : tie.Need-bits-of-requires
 bits-of-requires c κs = search needs
 

@@ -12,8 +12,6 @@ use Rattle.reader.proofs.begin.opens_with_capital.Reads as opens-with-c
 use Rattle.reader.proofs.begin.plain_leaf.Reads as plain-leaf-reads
 use Rattle.text.proofs.bytes.same_bytes.Reads as same-bytes-reads
 
-
-
 slice-aggregate-same-bytes : tie.Need-slice-aggregate-same-bytes
 slice-aggregate-same-bytes c = omega arith
 

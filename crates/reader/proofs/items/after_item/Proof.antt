@@ -10,8 +10,6 @@ use Rattle.reader.proofs.items.closer_of.Reads as closer-of-reads
 use Rattle.reader.proofs.items.is_mark.Reads as is-mark-reads
 use Rattle.reader.proofs.items.token_from.Reads as token-from-reads
 
-
-
 closer-of-requires : tie.Need-closer-of-requires
 closer-of-requires c κs = search needs
 

@@ -14,8 +14,6 @@ use Rattle.reader.proofs.items.one_mark.Reads as one-mark-reads
 use Rattle.reader.proofs.items.opens_empty.Reads as opens-empty-reads
 use Rattle.reader.proofs.items.token_from.Reads as token-from-reads
 
-
-
 closer-of-requires : tie.Need-closer-of-requires
 closer-of-requires c κs = search needs
 

@@ -20,7 +20,6 @@ use Rattle.reader.proofs.keys.find_key.Reads as find-key-reads
 found-as : {sw : _} {s tab : _} {x m a e : _} {r q : _} → r ≡ q → FoundKey sw s tab x m a e r → FoundKey sw s tab x m a e q
 found-as {sw} {s} {tab} {x} {m} {a} {e} {r} {q} p h = subst (λ (b : Bool). FoundKey sw s tab x m a e b) p h
 
-
 token-from-requires : tie.Need-token-from-requires
 token-from-requires c κs = search needs
 

@@ -10,8 +10,6 @@ use Rattle.reader.proofs.items.next_item.Lts as lts
 use Rattle.reader.proofs.items.next_element.Reads as next-element-reads
 use Rattle.reader.proofs.items.next_field.Reads as next-field-reads
 
-
-
 enum-told : tie.Need-enum-told
 enum-told c = search needs
 

@@ -9,8 +9,6 @@ use Rattle.reader.proofs.items.one_mark.Lts as lts
 use Rattle.reader.proofs.items.is_mark.Reads as is-mark-reads
 use Rattle.reader.proofs.items.token_from.Reads as token-from-reads
 
-
-
 token-from-requires : tie.Need-token-from-requires
 token-from-requires c κs = search needs
 

@@ -15,8 +15,6 @@ use Rattle.lexer.proofs.token.content_is.Reads as content-is-reads
 use Rattle.lexer.proofs.token.part_of.Reads as part-of-reads
 use Rattle.reader.proofs.rows.word_of.Reads as word-of-reads
 
-
-
 abbrev Inv-loop : tie.InvT-loop
 Inv-loop sw text table children start stop body from to own x₀ x = (K : KeyHere sw text start stop) × (content sw body own ≡ some (K .content)) × Walk sw text table (children .first) x (children .next) (K .content)
 

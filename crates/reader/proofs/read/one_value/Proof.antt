@@ -13,8 +13,6 @@ use Rattle.reader.proofs.read.one_value.Reads as reads
 use Rattle.reader.proofs.read.one_value.Lts as lts
 use Rattle.reader.proofs.read.judge.Reads as judge-reads
 
-
-
 slice-aggregate-judge : tie.Need-slice-aggregate-judge
 slice-aggregate-judge c = omega arith
 

@@ -8,8 +8,6 @@ use Rattle.reader.proofs.read.only_value.Reads as reads
 use Rattle.reader.proofs.read.only_value.Lts as lts
 use Rattle.lexer.proofs.item.next_token.Reads as next-token-reads
 
-
-
 next-token-requires : tie.Need-next-token-requires
 next-token-requires c κs = search needs
 

@@ -14,8 +14,6 @@ use Rattle.reader.proofs.read.only_value.Reads as only-value-reads
 use Rattle.reader.proofs.values.fresh_due.Reads as fresh-due-reads
 use Rattle.reader.proofs.values.read_value.Reads as read-value-reads
 
-
-
 token-from-requires : tie.Need-token-from-requires
 token-from-requires c κs = search needs
 

@@ -18,7 +18,6 @@ ten n = omega arith
 eleven : (n : ℕ) → n + 11 ≡ suc (suc (suc (n + 8)))
 eleven n = omega arith
 
-
 mul-row : tie.Need-mul-row
 mul-row c = omega arith
 

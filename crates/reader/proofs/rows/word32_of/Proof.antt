@@ -9,8 +9,6 @@ use Rattle.reader.proofs.rows.word32_of.Tie as tie
 use Rattle.reader.proofs.rows.word32_of.Reads as reads
 use Rattle.reader.proofs.rows.word32_of.Lts as lts
 
-
-
 returns : tie.Need-returns
 returns c = sym (List·getD-eq-default (c .before .args .table .now) 0 {n = nodeWords * c .before .args .node + c .before .args .w} (omega arith))
 

@@ -43,10 +43,10 @@ use Rattle.reader.proofs.values.+read_container+read_identifier+read_va
 
 
 abbrev μ-read-container : Measures 2 read-container-kinds.ps ℕ
-μ-read-container κs a = 2 * (length (a .1 .0 .now) - a .1 .1 .1 .1 .1 .0 .span .start)
+μ-read-container κs a = 2 * (length (a .1 .0 .now) - a .1 .1 .1 .1 .1 .0 .start)
 
 abbrev μ-read-identifier : Measures 2 read-identifier-kinds.ps ℕ
-μ-read-identifier κs a = 2 * (length (a .1 .0 .now) - a .1 .1 .1 .1 .0 .span .start)
+μ-read-identifier κs a = 2 * (length (a .1 .0 .now) - a .1 .1 .1 .1 .0 .start)
 
 abbrev μ-read-value : Measures 2 read-value-kinds.ps ℕ
 μ-read-value κs a = 2 * (length (a .1 .0 .now) - a .1 .1 .1 .1 .0 .span .start) + 1
@@ -122,7 +122,7 @@ read-container-add-first : (t : ℕ) → read-container-lts.Need-add-first (read
 read-container-add-first t c = let w = node-left _ (c .before .before .before .before .before .before .before .before .before .args .due .fresh) (c .before .before .before .before .before .before .before .before .before .args .due .spot .node) (sym (c .before .before .is-full .ensures) ∙ c .before .if2 .left) (c .before .before .before .before .before .before .before .before .before .pre .1 .0 .counted) in omega (arith, c .before .before .before .before .before .before .before .before .before .pre .1 .0 .table .small)
 
 read-container-loop-holds : (t : ℕ) → read-container-lts.Need-loop-holds (read-container-calls t) (read-container-at t) read-container.Post read-container-Inv-loop read-container-μ-loop
-read-container-loop-holds t c = (nil, [], refl, body-start (c .before .before .before .before .before .before .before .before .before .args .rules .sw) (c .before .before .before .before .before .before .before .before .before .args .rules .limits) (c .before .before .before .before .before .before .before .before .before .args .text .now) (c .before .before .before .before .before .before .before .before .before .args .bracket .span .start) (c .before .before .before .before .before .before .before .before .before .args .bracket .span .stop) (c .before .before .before .before .before .before .before .before .before .args .due .fresh) (c .before .before .before .before .before .before .before .before .before .args .due .any) (labelOf (c .before .before .before .before .before .before .before .before .before .args .due .label)) (c .before .before .before .before .before .before .before .before .before .args .due .spot .node) (c .before .before .before .before .before .before .before .before .before .args .due .spot .depth) (c .before .before .before .before .before .before .before .before .before .args .kind) _ (c .before .before .before .if1 .left) (sym (c .before .before .is-full .ensures) ∙ c .before .if2 .left) (node-left _ (c .before .before .before .before .before .before .before .before .before .args .due .fresh) (c .before .before .before .before .before .before .before .before .before .args .due .spot .node) (sym (c .before .before .is-full .ensures) ∙ c .before .if2 .left) (c .before .before .before .before .before .before .before .before .before .pre .1 .0 .counted)) (c .before .before .before .before .before .before .before .before .before .pre .1 .1 .ordered) (c .before .before .before .before .before .before .before .before .before .pre .1 .1 .inside) (c .before .before .before .before .before .before .before .before .before .pre .1 .0 .table .room))
+read-container-loop-holds t c = (nil, [], refl, body-start (c .before .before .before .before .before .before .before .before .before .args .rules .sw) (c .before .before .before .before .before .before .before .before .before .args .rules .limits) (c .before .before .before .before .before .before .before .before .before .args .text .now) (c .before .before .before .before .before .before .before .before .before .args .bracket .start) (c .before .before .before .before .before .before .before .before .before .args .bracket .stop) (c .before .before .before .before .before .before .before .before .before .args .due .fresh) (c .before .before .before .before .before .before .before .before .before .args .due .any) (labelOf (c .before .before .before .before .before .before .before .before .before .args .due .label)) (c .before .before .before .before .before .before .before .before .before .args .due .spot .node) (c .before .before .before .before .before .before .before .before .before .args .due .spot .depth) (c .before .before .before .before .before .before .before .before .before .args .kind) _ (c .before .before .before .if1 .left) (sym (c .before .before .is-full .ensures) ∙ c .before .if2 .left) (node-left _ (c .before .before .before .before .before .before .before .before .before .args .due .fresh) (c .before .before .before .before .before .before .before .before .before .args .due .spot .node) (sym (c .before .before .is-full .ensures) ∙ c .before .if2 .left) (c .before .before .before .before .before .before .before .before .before .pre .1 .0 .counted)) (c .before .before .before .before .before .before .before .before .before .pre .1 .1 .ordered) (c .before .before .before .before .before .before .before .before .before .pre .1 .1 .inside) (c .before .before .before .before .before .before .before .before .before .pre .1 .0 .table .room))
 
 read-container-next-item-requires : (t : ℕ) → read-container-lts.Need-next-item-requires (read-container-calls t) (read-container-at t) read-container.Post read-container-Inv-loop read-container-μ-loop
 read-container-next-item-requires t c κs = body-look (c .before .loop .inv .2) (c .before .before .before .before .before .before .before .before .before .before .before .pre .1 .1 .short) (c .before .loop .inv .3)
@@ -216,7 +216,7 @@ read-identifier-returns : (t : ℕ) → read-identifier-lts.Need-returns (read-i
 read-identifier-returns t c = record { is = name-twice _ _ _ _ _ (c .before .before .before .before .args .due .fresh) (c .before .before .before .before .args .due .any) _ _ _ _ (not-true _ (c .if1 .taken)) }
 
 read-identifier-returns-2 : (t : ℕ) → read-identifier-lts.Need-returns-2 (read-identifier-calls t) (read-identifier-at t) read-identifier.Post
-read-identifier-returns-2 t c = record { is = name-full (c .before .before .before .before .before .before .before .args .rules .sw) (c .before .before .before .before .before .before .before .args .rules .limits) (c .before .before .before .before .before .before .before .args .text .now) (c .before .before .before .before .before .before .before .args .name .span .start) (c .before .before .before .before .before .before .before .args .name .span .stop) (c .before .before .before .before .before .before .before .args .due .fresh) (c .before .before .before .before .before .before .before .args .due .any) (c .before .before .before .before .before .before .before .args .due .label) (c .before .before .before .before .before .before .before .args .due .spot .node) (c .before .before .before .before .before .before .before .args .due .spot .depth) (not-false (c .before .before .before .before .before .before .before .args .due .fresh) (c .before .before .before .if1 .left)) (c .if2 .taken) _ }
+read-identifier-returns-2 t c = record { is = name-full (c .before .before .before .before .before .before .before .args .rules .sw) (c .before .before .before .before .before .before .before .args .rules .limits) (c .before .before .before .before .before .before .before .args .text .now) (c .before .before .before .before .before .before .before .args .name .start) (c .before .before .before .before .before .before .before .args .name .stop) (c .before .before .before .before .before .before .before .args .due .fresh) (c .before .before .before .before .before .before .before .args .due .any) (c .before .before .before .before .before .before .before .args .due .label) (c .before .before .before .before .before .before .before .args .due .spot .node) (c .before .before .before .before .before .before .before .args .due .spot .depth) (not-false (c .before .before .before .before .before .before .before .args .due .fresh) (c .before .before .before .if1 .left)) (c .if2 .taken) _ }
 
 read-identifier-named-due-requires : (t : ℕ) → read-identifier-lts.Need-named-due-requires (read-identifier-calls t) (read-identifier-at t) read-identifier.Post
 read-identifier-named-due-requires t c κs = record { start-low = omega (arith, c .before .before .before .before .before .before .before .pre .1 .1 .ordered, c .before .before .before .before .before .before .before .pre .1 .1 .inside, c .before .before .before .before .before .before .before .pre .1 .1 .short); stop-low = omega (arith, c .before .before .before .before .before .before .before .pre .1 .1 .inside, c .before .before .before .before .before .before .before .pre .1 .1 .short) }
@@ -231,7 +231,7 @@ read-identifier-enum-known-token : (t : ℕ) → read-identifier-lts.Need-enum-k
 read-identifier-enum-known-token t c = search needs
 
 read-identifier-read-value-requires : (t : ℕ) → read-identifier-lts.Need-read-value-requires (read-identifier-calls t) (read-identifier-at t) read-identifier.Post
-read-identifier-read-value-requires t c κs = let P = past-token (c .before .before .before .before .before .before .before .before .before .before .before .before .before .args .rules .sw) (c .before .before .before .before .before .before .before .before .before .before .before .before .before .args .text .now) (c .before .before .before .before .before .before .before .before .before .before .before .before .before .args .name .span .stop) 40 (c .before .before .before .before .before .before .before .before .before .before .before .before .before .pre .1 .1 .inside) _ (sym (c .before .before .before .before .token-after .ensures) ∙ c .before .before .token .given .1) in
+read-identifier-read-value-requires t c κs = let P = past-token (c .before .before .before .before .before .before .before .before .before .before .before .before .before .args .rules .sw) (c .before .before .before .before .before .before .before .before .before .before .before .before .before .args .text .now) (c .before .before .before .before .before .before .before .before .before .before .before .before .before .args .name .stop) 40 (c .before .before .before .before .before .before .before .before .before .before .before .before .before .pre .1 .1 .inside) _ (sym (c .before .before .before .before .token-after .ensures) ∙ c .before .before .token .given .1) in
     let g : 2 * (length (c .before .before .before .before .before .before .before .before .before .before .before .before .before .args .text .now) - c .before .before .token .given .0 .0 .span .start) + 1 < t = omega (arith, c .before .before .before .before .before .before .before .before .before .before .before .before .before .pre .0, P .mark .ahead, P .mark .some, P .token .ahead, P .token .token .ordered, P .token .token .inside, c .before .before .before .before .before .before .before .before .before .before .before .before .before .pre .1 .1 .ordered) in
     (g,
     (named-ready (c .before .before .before .before .before .named-due .ensures) (c .before .before .before .before .before .before .before .before .before .before .before .before .before .pre .1 .0) (c .before .before .before .before .before .before .before .before .before .before .before .before .before .pre .1 .1) (c .before .before .before .before .before .before .if2 .left), (P .token .token, c .before .before .before .before .before .before .before .before .before .before .before .before .before .pre .1 .1 .short)))
@@ -258,25 +258,25 @@ read-identifier-put-stop-requires : (t : ℕ) → read-identifier-lts.Need-put-s
 read-identifier-put-stop-requires t c κs = omega (arith, c .before .before .before .before .before .before .before .before .before .before .read-value .kept .1 .1 .0, c .before .before .before .before .before .before .before .before .before .before .before .before .before .before .before .before .before .if2 .left, c .before .before .before .before .before .before .before .before .before .before .before .before .before .before .before .before .before .before .before .before .before .before .before .before .pre .1 .0 .table .room)
 
 read-identifier-returns-3 : (t : ℕ) → read-identifier-lts.Need-returns-3 (read-identifier-calls t) (read-identifier-at t) read-identifier.Post
-read-identifier-returns-3 t c = record { is = name-not (c .before .before .before .before .before .before .before .before .before .before .before .before .args .rules .sw) (c .before .before .before .before .before .before .before .before .before .before .before .before .args .rules .limits) (c .before .before .before .before .before .before .before .before .before .before .before .before .args .text .now) (c .before .before .before .before .before .before .before .before .before .before .before .before .args .name .span .start) (c .before .before .before .before .before .before .before .before .before .before .before .before .args .name .span .stop) (c .before .before .before .before .before .before .before .before .before .before .before .before .args .due .fresh) (c .before .before .before .before .before .before .before .before .before .before .before .before .args .due .any) (c .before .before .before .before .before .before .before .before .before .before .before .before .args .due .label) (c .before .before .before .before .before .before .before .before .before .before .before .before .args .due .spot .node) (c .before .before .before .before .before .before .before .before .before .before .before .before .args .due .spot .depth) (not-false (c .before .before .before .before .before .before .before .before .before .before .before .before .args .due .fresh) (c .before .before .before .before .before .before .before .before .if1 .left)) (c .before .before .before .before .before .if2 .left) (c .before .before .before .before .before .before .before .before .before .before .before .before .pre .1 .1 .ordered) _ _ (c .before .before .before .before .before .before .before .before .before .before .before .before .pre .1 .1 .inside) (sym (c .before .before .before .token-after .ensures) ∙ c .before .refusal .given .1) }
+read-identifier-returns-3 t c = record { is = name-not (c .before .before .before .before .before .before .before .before .before .before .before .before .args .rules .sw) (c .before .before .before .before .before .before .before .before .before .before .before .before .args .rules .limits) (c .before .before .before .before .before .before .before .before .before .before .before .before .args .text .now) (c .before .before .before .before .before .before .before .before .before .before .before .before .args .name .start) (c .before .before .before .before .before .before .before .before .before .before .before .before .args .name .stop) (c .before .before .before .before .before .before .before .before .before .before .before .before .args .due .fresh) (c .before .before .before .before .before .before .before .before .before .before .before .before .args .due .any) (c .before .before .before .before .before .before .before .before .before .before .before .before .args .due .label) (c .before .before .before .before .before .before .before .before .before .before .before .before .args .due .spot .node) (c .before .before .before .before .before .before .before .before .before .before .before .before .args .due .spot .depth) (not-false (c .before .before .before .before .before .before .before .before .before .before .before .before .args .due .fresh) (c .before .before .before .before .before .before .before .before .if1 .left)) (c .before .before .before .before .before .if2 .left) (c .before .before .before .before .before .before .before .before .before .before .before .before .pre .1 .1 .ordered) _ _ (c .before .before .before .before .before .before .before .before .before .before .before .before .pre .1 .1 .inside) (sym (c .before .before .before .token-after .ensures) ∙ c .before .refusal .given .1) }
 
 read-identifier-same-length : (t : ℕ) → read-identifier-lts.Need-same-length (read-identifier-calls t) (read-identifier-at t) read-identifier.Post
 read-identifier-same-length t c = c .before .before .before .before .before .read-value .kept .1 .1 .0
 
 read-identifier-returns-4 : (t : ℕ) → read-identifier-lts.Need-returns-4 (read-identifier-calls t) (read-identifier-at t) read-identifier.Post
-read-identifier-returns-4 t c = record { is = name-stop (c .before .before .before .before .before .before .before .before .before .before .before .before .before .before .before .before .before .before .before .args .rules .sw) (c .before .before .before .before .before .before .before .before .before .before .before .before .before .before .before .before .before .before .before .args .rules .limits) (c .before .before .before .before .before .before .before .before .before .before .before .before .before .before .before .before .before .before .before .args .text .now) (c .before .before .before .before .before .before .before .before .before .before .before .before .before .before .before .before .before .before .before .args .name .span .start) (c .before .before .before .before .before .before .before .before .before .before .before .before .before .before .before .before .before .before .before .args .name .span .stop) (c .before .before .before .before .before .before .before .before .before .before .before .before .before .before .before .before .before .before .before .args .due .fresh) (c .before .before .before .before .before .before .before .before .before .before .before .before .before .before .before .before .before .before .before .args .due .any) (c .before .before .before .before .before .before .before .before .before .before .before .before .before .before .before .before .before .before .before .args .due .label) (c .before .before .before .before .before .before .before .before .before .before .before .before .before .before .before .before .before .before .before .args .due .spot .node) (c .before .before .before .before .before .before .before .before .before .before .before .before .before .before .before .before .before .before .before .args .due .spot .depth) (not-false (c .before .before .before .before .before .before .before .before .before .before .before .before .before .before .before .before .before .before .before .args .due .fresh) (c .before .before .before .before .before .before .before .before .before .before .before .before .before .before .before .if1 .left)) (c .before .before .before .before .before .before .before .before .before .before .before .before .if2 .left) (c .before .before .before .before .before .before .before .before .before .before .before .before .before .before .before .before .before .before .before .pre .1 .1 .ordered) _ (past-token (c .before .before .before .before .before .before .before .before .before .before .before .before .before .before .before .before .before .before .before .args .rules .sw) (c .before .before .before .before .before .before .before .before .before .before .before .before .before .before .before .before .before .before .before .args .text .now) (c .before .before .before .before .before .before .before .before .before .before .before .before .before .before .before .before .before .before .before .args .name .span .stop) 40 (c .before .before .before .before .before .before .before .before .before .before .before .before .before .before .before .before .before .before .before .pre .1 .1 .inside) _ (sym (c .before .before .before .before .before .before .before .before .before .before .token-after .ensures) ∙ c .before .before .before .before .before .before .before .before .token .given .1)) _ _ _ _ (stops (c .before .refusal2 .given .1) (due-as (c .before .before .before .before .before .before .before .before .before .before .before .named-due .ensures) (c .before .before .before .before .before .read-value .ensures))) }
+read-identifier-returns-4 t c = record { is = name-stop (c .before .before .before .before .before .before .before .before .before .before .before .before .before .before .before .before .before .before .before .args .rules .sw) (c .before .before .before .before .before .before .before .before .before .before .before .before .before .before .before .before .before .before .before .args .rules .limits) (c .before .before .before .before .before .before .before .before .before .before .before .before .before .before .before .before .before .before .before .args .text .now) (c .before .before .before .before .before .before .before .before .before .before .before .before .before .before .before .before .before .before .before .args .name .start) (c .before .before .before .before .before .before .before .before .before .before .before .before .before .before .before .before .before .before .before .args .name .stop) (c .before .before .before .before .before .before .before .before .before .before .before .before .before .before .before .before .before .before .before .args .due .fresh) (c .before .before .before .before .before .before .before .before .before .before .before .before .before .before .before .before .before .before .before .args .due .any) (c .before .before .before .before .before .before .before .before .before .before .before .before .before .before .before .before .before .before .before .args .due .label) (c .before .before .before .before .before .before .before .before .before .before .before .before .before .before .before .before .before .before .before .args .due .spot .node) (c .before .before .before .before .before .before .before .before .before .before .before .before .before .before .before .before .before .before .before .args .due .spot .depth) (not-false (c .before .before .before .before .before .before .before .before .before .before .before .before .before .before .before .before .before .before .before .args .due .fresh) (c .before .before .before .before .before .before .before .before .before .before .before .before .before .before .before .if1 .left)) (c .before .before .before .before .before .before .before .before .before .before .before .before .if2 .left) (c .before .before .before .before .before .before .before .before .before .before .before .before .before .before .before .before .before .before .before .pre .1 .1 .ordered) _ (past-token (c .before .before .before .before .before .before .before .before .before .before .before .before .before .before .before .before .before .before .before .args .rules .sw) (c .before .before .before .before .before .before .before .before .before .before .before .before .before .before .before .before .before .before .before .args .text .now) (c .before .before .before .before .before .before .before .before .before .before .before .before .before .before .before .before .before .before .before .args .name .stop) 40 (c .before .before .before .before .before .before .before .before .before .before .before .before .before .before .before .before .before .before .before .pre .1 .1 .inside) _ (sym (c .before .before .before .before .before .before .before .before .before .before .token-after .ensures) ∙ c .before .before .before .before .before .before .before .before .token .given .1)) _ _ _ _ (stops (c .before .refusal2 .given .1) (due-as (c .before .before .before .before .before .before .before .before .before .before .before .named-due .ensures) (c .before .before .before .before .before .read-value .ensures))) }
 
 read-identifier-same-length-2 : (t : ℕ) → read-identifier-lts.Need-same-length-2 (read-identifier-calls t) (read-identifier-at t) read-identifier.Post
 read-identifier-same-length-2 t c = c .before .before .before .before .before .before .before .before .before .read-value .kept .1 .1 .0
 
 read-identifier-returns-5 : (t : ℕ) → read-identifier-lts.Need-returns-5 (read-identifier-calls t) (read-identifier-at t) read-identifier.Post
-read-identifier-returns-5 t c = record { is = name-shut-not (c .before .before .before .before .before .before .before .before .before .before .before .before .before .before .before .before .before .before .before .before .before .before .before .args .rules .sw) (c .before .before .before .before .before .before .before .before .before .before .before .before .before .before .before .before .before .before .before .before .before .before .before .args .rules .limits) (c .before .before .before .before .before .before .before .before .before .before .before .before .before .before .before .before .before .before .before .before .before .before .before .args .text .now) (c .before .before .before .before .before .before .before .before .before .before .before .before .before .before .before .before .before .before .before .before .before .before .before .args .name .span .start) (c .before .before .before .before .before .before .before .before .before .before .before .before .before .before .before .before .before .before .before .before .before .before .before .args .name .span .stop) (c .before .before .before .before .before .before .before .before .before .before .before .before .before .before .before .before .before .before .before .before .before .before .before .args .due .fresh) (c .before .before .before .before .before .before .before .before .before .before .before .before .before .before .before .before .before .before .before .before .before .before .before .args .due .any) (c .before .before .before .before .before .before .before .before .before .before .before .before .before .before .before .before .before .before .before .before .before .before .before .args .due .label) (c .before .before .before .before .before .before .before .before .before .before .before .before .before .before .before .before .before .before .before .before .before .before .before .args .due .spot .node) (c .before .before .before .before .before .before .before .before .before .before .before .before .before .before .before .before .before .before .before .before .before .before .before .args .due .spot .depth) (not-false (c .before .before .before .before .before .before .before .before .before .before .before .before .before .before .before .before .before .before .before .before .before .before .before .args .due .fresh) (c .before .before .before .before .before .before .before .before .before .before .before .before .before .before .before .before .before .before .before .if1 .left)) (c .before .before .before .before .before .before .before .before .before .before .before .before .before .before .before .before .if2 .left) (c .before .before .before .before .before .before .before .before .before .before .before .before .before .before .before .before .before .before .before .before .before .before .before .pre .1 .1 .ordered) _ (past-token (c .before .before .before .before .before .before .before .before .before .before .before .before .before .before .before .before .before .before .before .before .before .before .before .args .rules .sw) (c .before .before .before .before .before .before .before .before .before .before .before .before .before .before .before .before .before .before .before .before .before .before .before .args .text .now) (c .before .before .before .before .before .before .before .before .before .before .before .before .before .before .before .before .before .before .before .before .before .before .before .args .name .span .stop) 40 (c .before .before .before .before .before .before .before .before .before .before .before .before .before .before .before .before .before .before .before .before .before .before .before .pre .1 .1 .inside) _ (sym (c .before .before .before .before .before .before .before .before .before .before .before .before .before .before .token-after .ensures) ∙ c .before .before .before .before .before .before .before .before .before .before .before .before .token .given .1)) _ _ _ _ _ (took (c .before .before .before .before .before .stop .given .1) (due-as (c .before .before .before .before .before .before .before .before .before .before .before .before .before .before .before .named-due .ensures) (c .before .before .before .before .before .before .before .before .before .read-value .ensures))) _ _ (told-not ((took (c .before .before .before .before .before .stop .given .1) (due-as (c .before .before .before .before .before .before .before .before .before .before .before .before .before .before .before .named-due .ensures) (c .before .before .before .before .before .before .before .before .before .read-value .ensures))) .inside) (c .before .refusal3 .given .1) (c .before .before .before .one-mark .ensures)) }
+read-identifier-returns-5 t c = record { is = name-shut-not (c .before .before .before .before .before .before .before .before .before .before .before .before .before .before .before .before .before .before .before .before .before .before .before .args .rules .sw) (c .before .before .before .before .before .before .before .before .before .before .before .before .before .before .before .before .before .before .before .before .before .before .before .args .rules .limits) (c .before .before .before .before .before .before .before .before .before .before .before .before .before .before .before .before .before .before .before .before .before .before .before .args .text .now) (c .before .before .before .before .before .before .before .before .before .before .before .before .before .before .before .before .before .before .before .before .before .before .before .args .name .start) (c .before .before .before .before .before .before .before .before .before .before .before .before .before .before .before .before .before .before .before .before .before .before .before .args .name .stop) (c .before .before .before .before .before .before .before .before .before .before .before .before .before .before .before .before .before .before .before .before .before .before .before .args .due .fresh) (c .before .before .before .before .before .before .before .before .before .before .before .before .before .before .before .before .before .before .before .before .before .before .before .args .due .any) (c .before .before .before .before .before .before .before .before .before .before .before .before .before .before .before .before .before .before .before .before .before .before .before .args .due .label) (c .before .before .before .before .before .before .before .before .before .before .before .before .before .before .before .before .before .before .before .before .before .before .before .args .due .spot .node) (c .before .before .before .before .before .before .before .before .before .before .before .before .before .before .before .before .before .before .before .before .before .before .before .args .due .spot .depth) (not-false (c .before .before .before .before .before .before .before .before .before .before .before .before .before .before .before .before .before .before .before .before .before .before .before .args .due .fresh) (c .before .before .before .before .before .before .before .before .before .before .before .before .before .before .before .before .before .before .before .if1 .left)) (c .before .before .before .before .before .before .before .before .before .before .before .before .before .before .before .before .if2 .left) (c .before .before .before .before .before .before .before .before .before .before .before .before .before .before .before .before .before .before .before .before .before .before .before .pre .1 .1 .ordered) _ (past-token (c .before .before .before .before .before .before .before .before .before .before .before .before .before .before .before .before .before .before .before .before .before .before .before .args .rules .sw) (c .before .before .before .before .before .before .before .before .before .before .before .before .before .before .before .before .before .before .before .before .before .before .before .args .text .now) (c .before .before .before .before .before .before .before .before .before .before .before .before .before .before .before .before .before .before .before .before .before .before .before .args .name .stop) 40 (c .before .before .before .before .before .before .before .before .before .before .before .before .before .before .before .before .before .before .before .before .before .before .before .pre .1 .1 .inside) _ (sym (c .before .before .before .before .before .before .before .before .before .before .before .before .before .before .token-after .ensures) ∙ c .before .before .before .before .before .before .before .before .before .before .before .before .token .given .1)) _ _ _ _ _ (took (c .before .before .before .before .before .stop .given .1) (due-as (c .before .before .before .before .before .before .before .before .before .before .before .before .before .before .before .named-due .ensures) (c .before .before .before .before .before .before .before .before .before .read-value .ensures))) _ _ (told-not ((took (c .before .before .before .before .before .stop .given .1) (due-as (c .before .before .before .before .before .before .before .before .before .before .before .before .before .before .before .named-due .ensures) (c .before .before .before .before .before .before .before .before .before .read-value .ensures))) .inside) (c .before .refusal3 .given .1) (c .before .before .before .one-mark .ensures)) }
 
 read-identifier-same-length-3 : (t : ℕ) → read-identifier-lts.Need-same-length-3 (read-identifier-calls t) (read-identifier-at t) read-identifier.Post
 read-identifier-same-length-3 t c = c .before .before .put-stop .kept .0 ∙ c .before .before .before .before .before .before .before .before .before .before .before .before .before .read-value .kept .1 .1 .0
 
 read-identifier-returns-6 : (t : ℕ) → read-identifier-lts.Need-returns-6 (read-identifier-calls t) (read-identifier-at t) read-identifier.Post
-read-identifier-returns-6 t c = record { is = name-took (c .before .before .before .before .before .before .before .before .before .before .before .before .before .before .before .before .before .before .before .before .before .before .before .before .before .before .before .args .rules .sw) (c .before .before .before .before .before .before .before .before .before .before .before .before .before .before .before .before .before .before .before .before .before .before .before .before .before .before .before .args .rules .limits) (c .before .before .before .before .before .before .before .before .before .before .before .before .before .before .before .before .before .before .before .before .before .before .before .before .before .before .before .args .text .now) (c .before .before .before .before .before .before .before .before .before .before .before .before .before .before .before .before .before .before .before .before .before .before .before .before .before .before .before .args .name .span .start) (c .before .before .before .before .before .before .before .before .before .before .before .before .before .before .before .before .before .before .before .before .before .before .before .before .before .before .before .args .name .span .stop) (c .before .before .before .before .before .before .before .before .before .before .before .before .before .before .before .before .before .before .before .before .before .before .before .before .before .before .before .args .due .fresh) (c .before .before .before .before .before .before .before .before .before .before .before .before .before .before .before .before .before .before .before .before .before .before .before .before .before .before .before .args .due .any) (c .before .before .before .before .before .before .before .before .before .before .before .before .before .before .before .before .before .before .before .before .before .before .before .before .before .before .before .args .due .label) (c .before .before .before .before .before .before .before .before .before .before .before .before .before .before .before .before .before .before .before .before .before .before .before .before .before .before .before .args .due .spot .node) (c .before .before .before .before .before .before .before .before .before .before .before .before .before .before .before .before .before .before .before .before .before .before .before .before .before .before .before .args .due .spot .depth) (not-false (c .before .before .before .before .before .before .before .before .before .before .before .before .before .before .before .before .before .before .before .before .before .before .before .before .before .before .before .args .due .fresh) (c .before .before .before .before .before .before .before .before .before .before .before .before .before .before .before .before .before .before .before .before .before .before .before .if1 .left)) (c .before .before .before .before .before .before .before .before .before .before .before .before .before .before .before .before .before .before .before .before .if2 .left) (c .before .before .before .before .before .before .before .before .before .before .before .before .before .before .before .before .before .before .before .before .before .before .before .before .before .before .before .pre .1 .1 .ordered) _ (past-token (c .before .before .before .before .before .before .before .before .before .before .before .before .before .before .before .before .before .before .before .before .before .before .before .before .before .before .before .args .rules .sw) (c .before .before .before .before .before .before .before .before .before .before .before .before .before .before .before .before .before .before .before .before .before .before .before .before .before .before .before .args .text .now) (c .before .before .before .before .before .before .before .before .before .before .before .before .before .before .before .before .before .before .before .before .before .before .before .before .before .before .before .args .name .span .stop) 40 (c .before .before .before .before .before .before .before .before .before .before .before .before .before .before .before .before .before .before .before .before .before .before .before .before .before .before .before .pre .1 .1 .inside) _ (sym (c .before .before .before .before .before .before .before .before .before .before .before .before .before .before .before .before .before .before .token-after .ensures) ∙ c .before .before .before .before .before .before .before .before .before .before .before .before .before .before .before .before .token .given .1)) _ _ _ _ _ (took (c .before .before .before .before .before .before .before .before .before .stop .given .1) (due-as (c .before .before .before .before .before .before .before .before .before .before .before .before .before .before .before .before .before .before .before .named-due .ensures) (c .before .before .before .before .before .before .before .before .before .before .before .before .before .read-value .ensures))) (c .before .before .before .before .before .before .before .before .before .before .before .before .before .before .before .before .before .before .before .before .before .before .before .before .before .before .before .pre .1 .0 .unnamed (not-false (c .before .before .before .before .before .before .before .before .before .before .before .before .before .before .before .before .before .before .before .before .before .before .before .before .before .before .before .args .due .fresh) (c .before .before .before .before .before .before .before .before .before .before .before .before .before .before .before .before .before .before .before .before .before .before .before .if1 .left))) _ (told-at ((took (c .before .before .before .before .before .before .before .before .before .stop .given .1) (due-as (c .before .before .before .before .before .before .before .before .before .before .before .before .before .before .before .before .before .before .before .named-due .ensures) (c .before .before .before .before .before .before .before .before .before .before .before .before .before .read-value .ensures))) .inside) (c .before .before .before .before .before .end .given .1) (c .before .before .before .before .before .before .before .one-mark .ensures)) _ (c .before .before .put-stop .ensures) }
+read-identifier-returns-6 t c = record { is = name-took (c .before .before .before .before .before .before .before .before .before .before .before .before .before .before .before .before .before .before .before .before .before .before .before .before .before .before .before .args .rules .sw) (c .before .before .before .before .before .before .before .before .before .before .before .before .before .before .before .before .before .before .before .before .before .before .before .before .before .before .before .args .rules .limits) (c .before .before .before .before .before .before .before .before .before .before .before .before .before .before .before .before .before .before .before .before .before .before .before .before .before .before .before .args .text .now) (c .before .before .before .before .before .before .before .before .before .before .before .before .before .before .before .before .before .before .before .before .before .before .before .before .before .before .before .args .name .start) (c .before .before .before .before .before .before .before .before .before .before .before .before .before .before .before .before .before .before .before .before .before .before .before .before .before .before .before .args .name .stop) (c .before .before .before .before .before .before .before .before .before .before .before .before .before .before .before .before .before .before .before .before .before .before .before .before .before .before .before .args .due .fresh) (c .before .before .before .before .before .before .before .before .before .before .before .before .before .before .before .before .before .before .before .before .before .before .before .before .before .before .before .args .due .any) (c .before .before .before .before .before .before .before .before .before .before .before .before .before .before .before .before .before .before .before .before .before .before .before .before .before .before .before .args .due .label) (c .before .before .before .before .before .before .before .before .before .before .before .before .before .before .before .before .before .before .before .before .before .before .before .before .before .before .before .args .due .spot .node) (c .before .before .before .before .before .before .before .before .before .before .before .before .before .before .before .before .before .before .before .before .before .before .before .before .before .before .before .args .due .spot .depth) (not-false (c .before .before .before .before .before .before .before .before .before .before .before .before .before .before .before .before .before .before .before .before .before .before .before .before .before .before .before .args .due .fresh) (c .before .before .before .before .before .before .before .before .before .before .before .before .before .before .before .before .before .before .before .before .before .before .before .if1 .left)) (c .before .before .before .before .before .before .before .before .before .before .before .before .before .before .before .before .before .before .before .before .if2 .left) (c .before .before .before .before .before .before .before .before .before .before .before .before .before .before .before .before .before .before .before .before .before .before .before .before .before .before .before .pre .1 .1 .ordered) _ (past-token (c .before .before .before .before .before .before .before .before .before .before .before .before .before .before .before .before .before .before .before .before .before .before .before .before .before .before .before .args .rules .sw) (c .before .before .before .before .before .before .before .before .before .before .before .before .before .before .before .before .before .before .before .before .before .before .before .before .before .before .before .args .text .now) (c .before .before .before .before .before .before .before .before .before .before .before .before .before .before .before .before .before .before .before .before .before .before .before .before .before .before .before .args .name .stop) 40 (c .before .before .before .before .before .before .before .before .before .before .before .before .before .before .before .before .before .before .before .before .before .before .before .before .before .before .before .pre .1 .1 .inside) _ (sym (c .before .before .before .before .before .before .before .before .before .before .before .before .before .before .before .before .before .before .token-after .ensures) ∙ c .before .before .before .before .before .before .before .before .before .before .before .before .before .before .before .before .token .given .1)) _ _ _ _ _ (took (c .before .before .before .before .before .before .before .before .before .stop .given .1) (due-as (c .before .before .before .before .before .before .before .before .before .before .before .before .before .before .before .before .before .before .before .named-due .ensures) (c .before .before .before .before .before .before .before .before .before .before .before .before .before .read-value .ensures))) (c .before .before .before .before .before .before .before .before .before .before .before .before .before .before .before .before .before .before .before .before .before .before .before .before .before .before .before .pre .1 .0 .unnamed (not-false (c .before .before .before .before .before .before .before .before .before .before .before .before .before .before .before .before .before .before .before .before .before .before .before .before .before .before .before .args .due .fresh) (c .before .before .before .before .before .before .before .before .before .before .before .before .before .before .before .before .before .before .before .before .before .before .before .if1 .left))) _ (told-at ((took (c .before .before .before .before .before .before .before .before .before .stop .given .1) (due-as (c .before .before .before .before .before .before .before .before .before .before .before .before .before .before .before .before .before .before .before .named-due .ensures) (c .before .before .before .before .before .before .before .before .before .before .before .before .before .read-value .ensures))) .inside) (c .before .before .before .before .before .end .given .1) (c .before .before .before .before .before .before .before .one-mark .ensures)) _ (c .before .before .put-stop .ensures) }
 
 read-value-begin-of-requires : (t : ℕ) → read-value-lts.Need-begin-of-requires (read-value-calls t) (read-value-at t) read-value.Post
 read-value-begin-of-requires t c κs = (c .before .before .pre .1 .1 .0, c .before .before .pre .1 .1 .1)

@@ -9,8 +9,6 @@ use Rattle.reader.proofs.values.fresh_due.Reads as reads
 use Rattle.reader.proofs.values.fresh_due.Lts as lts
 use Rattle.reader.proofs.values.span_words.Reads as span-words-reads
 
-
-
 cast-t7 : tie.Need-cast-t7
 cast-t7 c = omega arith
 

@@ -9,8 +9,6 @@ use Rattle.reader.proofs.values.named_due.Reads as reads
 use Rattle.reader.proofs.values.named_due.Lts as lts
 use Rattle.reader.proofs.values.span_words.Reads as span-words-reads
 
-
-
 span-words-requires : tie.Need-span-words-requires
 span-words-requires c κs = search needs
 

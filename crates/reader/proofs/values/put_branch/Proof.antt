@@ -12,8 +12,6 @@ use Rattle.reader.proofs.values.put_branch.Lts as lts
 use Rattle.reader.proofs.rows.kind_word.Reads as kind-word-reads
 use Rattle.reader.proofs.rows.put_row.Reads as put-row-reads
 
-
-
 kind-word-requires : tie.Need-kind-word-requires
 kind-word-requires c κs = search needs
 

@@ -10,8 +10,6 @@ use Rattle.reader.proofs.values.put_leaf.Lts as lts
 use Rattle.reader.proofs.rows.put_row.Reads as put-row-reads
 use Rattle.reader.proofs.values.is_full.Reads as is-full-reads
 
-
-
 is-full-requires : tie.Need-is-full-requires
 is-full-requires c κs = search needs
 
