@@ -33,6 +33,7 @@ use literals::decoder::Body;
 use literals::number::Meaning;
 use literals::number::number_of;
 use literals::word::has_shape;
+use text::bytes::byte_at;
 use text::refusal;
 use text::refusal::Refusal;
 use text::span::Span;
@@ -69,17 +70,6 @@ pub enum Next {
     Token(Token),
     End(usize),
     Refused(Refusal),
-}
-
-// The byte at a place; 0 past the end, which opens nothing. Public for the module beside, src/token.rt, and
-// the crates above.
-pub fn byte_at(text: &[u8], i: usize) -> u8
-    ensures { λ r. ⌜ r ≡ getD (now (text .entry)) i 0 ⌝ }
-{
-    if i < text.len() {
-        return text[i];
-    }
-    0
 }
 
 // ---- comments

@@ -8,7 +8,6 @@ ghost use Rattle.lexer.specs.Token.{stringItem, rawItem, smallItem, toke
 ghost use Rattle.lexer.specs.Internal.{isKeyKind, hasContent, Keyed, KeyedAs, PartIs, WordIf, OtherIf};
 use super::item::Found;
 use super::item::TokenKind;
-use super::item::byte_at;
 use super::item::item_at;
 use super::item::opens_base64;
 use super::item::opens_raw;
@@ -19,6 +18,7 @@ use literals::compare::written_apart;
 use literals::content::Written;
 use literals::content::write_content;
 use literals::decoder::Body;
+use text::bytes::byte_at;
 use text::switches::Switches;
 
 // Where a string or key holds its content, and how it is decoded.

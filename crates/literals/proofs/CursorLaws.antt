@@ -8,8 +8,8 @@ use mathlib.Core.Option.{Option, none, some}
 use mathlib.Core.List.{List, [], _∷_}
 use lib.ListN.{length, drop, getD}
 use Rattle.text.specs.declared.switches.Switches.{Switches}
-use Rattle.text.specs.declared.utf8.Few.{Few}
-use Rattle.text.specs.declared.utf8.Few.the-variants.{Zero, One, Two, Three, Four}
+use Rattle.text.specs.declared.few.Few.{Few}
+use Rattle.text.specs.declared.few.Few.the-variants.{Zero, One, Two, Three, Four}
 use Rattle.text.specs.Bytes.{sameBytes}
 use Rattle.text.specs.Utf8.{listed}
 use Rattle.literals.specs.declared.decoder.Body.{Body}
@@ -20,7 +20,7 @@ use Rattle.literals.specs.declared.compare.Piece.{Piece}
 use Rattle.literals.specs.declared.compare.Piece.the-variants as P
 use Rattle.literals.specs.Content.{decodeStep, mayEnd, prepend, decoded, startOf, content, sameContent}
 use Rattle.literals.specs.InternalContent.{Sound, cursorAt, rest, weight, Step, PieceIs, Pieced}
-use Rattle.literals.proofs.FewLaws.{few-short}
+use Rattle.text.proofs.FewLaws.{few-short}
 use Rattle.literals.proofs.StepLaws.{good-next, decoded-turn, decoded-end}
 use Rattle.literals.proofs.PairLaws.{same-none, end-byte, byte-end, byte-differ, byte-same}
 use Rattle.literals.proofs.TallyLaws.{start-sound}

@@ -8,7 +8,7 @@ use lib.Dec.{leb, eqb}
 use borrow.Author.Tests.{le-leb, lt-leb, ne-eqb, leb-false}
 use Rattle.text.specs.declared.switches.Switches.{Switches}
 use Rattle.text.specs.Bytes.{within}
-use Rattle.text.specs.declared.utf8.Few.the-variants.{One}
+use Rattle.text.specs.declared.few.Few.the-variants.{One}
 use Rattle.literals.specs.declared.decoder.Decoder.the-variants.{Hex, Digits, Pads, Bad}
 use Rattle.literals.specs.Content.{gives, on, quotedRefuses, rawRefuses, hexDigit, base64Digit, pad}
 use Rattle.literals.specs.InternalContent.{hexRoom, bitRoom}

@@ -18,6 +18,7 @@ use Rattle.literals.specs.declared.content.Measure.the-variants as M
 use Rattle.literals.specs.declared.content.Written.the-variants as W
 use Rattle.literals.specs.Content.{decodeStep, mayEnd, prepend, decoded, startOf, content, onlyUtf8, contentOf, measured, fitted, placed}
 use Rattle.literals.specs.InternalContent.{Sound, HasRoom}
+use Rattle.text.proofs.ListLaws.{take-sets, drop-sets}
 use Rattle.literals.proofs.StepLaws.{good-next, decoded-turn, decoded-end}
 use Rattle.literals.proofs.TallyLaws.{start-sound}
 
@@ -35,20 +36,6 @@ room-front : (a : List ℕ) (o : Option (List ℕ)) (m : ℕ) → HasRoom (prepe
 unfolding prepend HasRoom
 room-front a none m h = absurd h
 room-front a (some c) m h = let l = length-append a c in omega arith
-
--- bytes put at k
-module _ (l vs : List ℕ) (k : ℕ) (h : k + length vs ≤ length l) where
-  front-long : length (take k l ++ vs) ≡ k + length vs
-  front-long =
-      let a = length-append (take k l) vs in
-      let t = length-take-le k l (omega arith) in
-      omega arith
-
-  put-front : take (k + length vs) (sets l k vs) ≡ take k l ++ vs
-  put-front = ap (take (k + length vs)) (sets-eq vs l k h) ∙ take-at (take k l ++ vs) (drop (k + length vs) l) (k + length vs) front-long
-
-  put-rest : drop (k + length vs) (sets l k vs) ≡ drop (k + length vs) l
-  put-rest = ap (drop (k + length vs)) (sets-eq vs l k h) ∙ drop-at (take k l ++ vs) (drop (k + length vs) l) (k + length vs) front-long
 
 -- what the loop knows at i, where the decoder was at `first` at the start and the output held `was`
 pub record Filled (sw : Switches) (first : Decoder) (s was : List ℕ) (out : List ℕ) (st : Decoder) (k i : ℕ) : Type 0 where
@@ -108,9 +95,9 @@ module _ {sw : Switches} {first : Decoder} {s was out : List ℕ} {st : Decoder}
           fits = omega arith;
           same =
               next-same
-              ∙ ap (λ (t : List ℕ). prepend t (decoded sw (d .state) (drop (i + 1) s))) (sym (put-front out (listed (d .out)) k fill-room));
+              ∙ ap (λ (t : List ℕ). prepend t (decoded sw (d .state) (drop (i + 1) s))) (sym (take-sets out (listed (d .out)) k fill-room));
           rest =
-              put-rest out (listed (d .out)) k fill-room ∙ sym (drop-drop (length (listed (d .out))) k out)
+              drop-sets out (listed (d .out)) k fill-room ∙ sym (drop-drop (length (listed (d .out))) k out)
               ∙ ap (drop (length (listed (d .out)))) (A .rest) ∙ drop-drop (length (listed (d .out))) k was;
         })
 

@@ -2,7 +2,6 @@
 pub mod NumberLaws
 pub mod Signed
 pub mod DecoderLaws
-pub mod FewLaws
 pub mod StepLaws
 pub mod PlainLaws
 pub mod TallyLaws

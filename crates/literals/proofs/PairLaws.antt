@@ -10,7 +10,7 @@ use lib.Dec.{T}
 use lib.ListN.{length, drop, getD}
 use borrow.Author.Tests.{eq-eqb, ne-eqb}
 use Rattle.text.specs.declared.switches.Switches.{Switches}
-use Rattle.text.specs.declared.utf8.Few.the-variants.{Zero, One}
+use Rattle.text.specs.declared.few.Few.the-variants.{Zero, One}
 use Rattle.text.specs.Bytes.{sameBytes}
 use Rattle.text.specs.Utf8.{listed}
 use Rattle.literals.specs.declared.decoder.Body.{Body}

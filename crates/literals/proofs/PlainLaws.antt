@@ -9,7 +9,7 @@ use lib.Dec.{ltb}
 use lib.ListN.{length, getD}
 use borrow.Author.Tests.{ne-eqb, ltb-true, ltb-false}
 use Rattle.text.specs.declared.switches.Switches.{Switches}
-use Rattle.text.specs.declared.utf8.Few.the-variants.{One}
+use Rattle.text.specs.declared.few.Few.the-variants.{One}
 use Rattle.literals.specs.declared.decoder.Body.{Body}
 use Rattle.literals.specs.declared.decoder.Body.the-variants.{Quoted, Raw, Word}
 use Rattle.literals.specs.declared.decoder.Decoder.the-variants.{Plain, Verbatim, Letters}

@@ -12,7 +12,7 @@ use lib.ListN.{length, drop, getD}
 use borrow.Author.Tests.{eq-eqb, ne-eqb}
 use Rattle.text.specs.declared.switches.Switches.{Switches}
 use Rattle.text.specs.Bytes.{is, isDigitIn, digitValue, sameBytes}
-use Rattle.text.specs.declared.utf8.Few.the-variants.{One}
+use Rattle.text.specs.declared.few.Few.the-variants.{One}
 use Rattle.text.specs.Utf8.{isScalar, listed}
 use Rattle.text.proofs.Choice.{cond-both}
 use Rattle.literals.specs.declared.decoder.Body.the-variants.{Quoted}

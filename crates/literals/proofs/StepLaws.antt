@@ -19,7 +19,7 @@ use Rattle.literals.specs.declared.decoder.Decoder.the-variants.{Plain, 
 use Rattle.literals.specs.declared.decoder.Decoded.{Decoded}
 use Rattle.literals.specs.Content.{on, oneLetter, hexDone, hexDigit, hexStep, quotedRefuses, plainStep, manyDigits, escaped, escapeStep, rawRefuses, rawStep, sextet, base64Digit, wholeBytes, pad, digitsStep, padsStep, decodeStep, mayEnd, prepend, decoded}
 use Rattle.literals.specs.InternalContent.{hexRoom, bitRoom, Sound}
-use Rattle.literals.proofs.FewLaws.{few-short}
+use Rattle.text.proofs.FewLaws.{few-short}
 
 -- bytes that have been taken and of which nothing has been given yet, at least
 unfoldable pub spent : Decoder → ℕ

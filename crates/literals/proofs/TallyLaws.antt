@@ -11,7 +11,7 @@ use borrow.Author.Tests.{le-leb}
 use Rattle.text.specs.declared.switches.Switches.{Switches}
 use Rattle.text.specs.declared.utf8.Utf8.{Utf8}
 use Rattle.text.specs.declared.utf8.Utf8.the-variants.{Whole}
-use Rattle.text.specs.declared.utf8.Few.the-variants.{One}
+use Rattle.text.specs.declared.few.Few.the-variants.{One}
 use Rattle.text.specs.Bytes.{feed}
 use Rattle.text.specs.Utf8.{lead, utf8Step, utf8, isUtf8, isWhole, listed}
 use Rattle.text.specs.Internal.{bytesRead}
@@ -24,7 +24,7 @@ use Rattle.literals.specs.declared.content.Measure.{Measure}
 use Rattle.literals.specs.declared.content.Measure.the-variants.{Length, Refused}
 use Rattle.literals.specs.Content.{gives, decodeStep, mayEnd, prepend, decoded, startOf, content, onlyUtf8, contentOf, measured}
 use Rattle.literals.specs.InternalContent.{bitRoom, Sound, AsWritten}
-use Rattle.literals.proofs.FewLaws.{read-feed}
+use Rattle.text.proofs.FewLaws.{read-feed}
 use Rattle.literals.proofs.StepLaws.{spent, good-next, decoded-turn, decoded-end}
 
 -- the measure of a content of which n bytes have gone by, by which the UTF-8 machine stands at u

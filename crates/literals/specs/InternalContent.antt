@@ -9,8 +9,8 @@ use mathlib.Core.List.{List, [], _∷_}
 use lib.Dec.{eqb}
 use lib.ListN.{length, drop, getD}
 use Rattle.text.specs.declared.switches.Switches.{Switches}
-use Rattle.text.specs.declared.utf8.Few.{Few}
-use Rattle.text.specs.declared.utf8.Few.the-variants.{Zero, One}
+use Rattle.text.specs.declared.few.Few.{Few}
+use Rattle.text.specs.declared.few.Few.the-variants.{Zero, One}
 use Rattle.text.specs.Bytes.{is}
 use Rattle.text.specs.Utf8.{listed}
 use Rattle.literals.specs.declared.decoder.Body.{Body}

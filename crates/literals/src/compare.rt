@@ -21,8 +21,8 @@ use crate::decoder::decode_step;
 use crate::decoder::may_end;
 use crate::decoder::start_of;
 use text::bytes::same_bytes;
+use text::few::Few;
 use text::switches::Switches;
-use text::utf8::Few;
 
 // A place in a body, the decoder there, and the bytes of content before it that have not been asked for yet.
 pub struct Cursor {
@@ -50,33 +50,33 @@ fn next_byte(sw: Switches, s: &[u8], from: Cursor) -> Piece
     ensures { λ r. ⌜ Pieced sw (now (s .entry)) from r ⌝ }
 {
     let mut i = from.place;
-    let mut st = from.state;
+    let mut state = from.state;
     let mut few = from.out;
     loop {
         match few {
             Few::Zero => {
                 if s.len() <= i {
-                    if may_end(st) {
+                    if may_end(state) {
                         return Piece::End;
                     }
                     return Piece::Bad;
                 }
-                let d = decode_step(sw, st, s[i]);
-                st = d.state;
-                few = d.out;
+                let step = decode_step(sw, state, s[i]);
+                state = step.state;
+                few = step.out;
                 i += 1;
             }
             Few::One(a) => {
-                return Piece::Byte(a, cursor_at(i, st, Few::Zero));
+                return Piece::Byte(a, cursor_at(i, state, Few::Zero));
             }
             Few::Two(a, b) => {
-                return Piece::Byte(a, cursor_at(i, st, Few::One(b)));
+                return Piece::Byte(a, cursor_at(i, state, Few::One(b)));
             }
             Few::Three(a, b, d) => {
-                return Piece::Byte(a, cursor_at(i, st, Few::Two(b, d)));
+                return Piece::Byte(a, cursor_at(i, state, Few::Two(b, d)));
             }
             Few::Four(a, b, d, e) => {
-                return Piece::Byte(a, cursor_at(i, st, Few::Three(b, d, e)));
+                return Piece::Byte(a, cursor_at(i, state, Few::Three(b, d, e)));
             }
         }
     }
@@ -125,10 +125,10 @@ fn tells(due: u8, x: u8, y: u8) -> bool
     if due != 0 {
         return false;
     }
-    if x == 0x5c {
+    if x == b'\\' {
         return false;
     }
-    if y == 0x5c {
+    if y == b'\\' {
         return false;
     }
     true
@@ -148,13 +148,16 @@ fn front_apart(a: &[u8], b: &[u8]) -> bool
         if x != y {
             return tells(0, x, y);
         }
-        if x == 0x5c {
+        if x == b'\\' {
             return false;
         }
         i += 1;
     }
     false
 }
+
+// What is due after a backslash: the escape's letter. More than the digits that are due after any letter.
+const ESCAPE_LETTER: u8 = 9;
 
 // The digits that are due after an escape's letter.
 fn letter_due(b: u8) -> u8
@@ -172,17 +175,17 @@ fn letter_due(b: u8) -> u8
     0
 }
 
-// What is due of an escape after one byte more: its letter (9), so many digits, or nothing.
+// What is due of an escape after one byte more: its letter, so many digits, or nothing.
 fn next_due(due: u8, b: u8) -> u8
     ensures { λ r. ⌜ r ≡ nextDue due b ⌝ }
 {
     if due == 0 {
-        if b == 0x5c {
-            return 9;
+        if b == b'\\' {
+            return ESCAPE_LETTER;
         }
         return 0;
     }
-    if due == 9 {
+    if due == ESCAPE_LETTER {
         return letter_due(b);
     }
     due - 1
@@ -223,8 +226,8 @@ fn plainly_apart(abody: Body, a: &[u8], bbody: Body, b: &[u8]) -> bool
 
 // Whether two bodies are seen to have different contents by their bytes as written. Asked for every key of an object at each new
 // one: decoding both sides costs much more, and is left for those that go on alike or spell an escape in two ways. Bodies without
-// escapes are compared whole; most others differ before any backslash, so that test comes next. Public for the crate above only.
-pub fn written_apart(abody: Body, a: &[u8], bbody: Body, b: &[u8]) -> bool
+// escapes are compared whole; most others differ before any backslash, so that test comes next.
+pub(crate) fn written_apart(abody: Body, a: &[u8], bbody: Body, b: &[u8]) -> bool
     ensures { λ r. ⌜ Apart abody (now (a .entry)) bbody (now (b .entry)) r ⌝ }
 {
     if is_verbatim(abody) {

@@ -8,12 +8,12 @@ use crate::decoder::Body;
 use crate::decoder::decode_step;
 use crate::decoder::may_end;
 use crate::decoder::start_of;
-use crate::few::feed_text;
-use crate::few::few_len;
-use crate::few::is_whole;
-use crate::few::put_few;
+use text::few::feed_text;
+use text::few::few_len;
+use text::few::put_few;
 use text::switches::Switches;
 use text::utf8::Utf8;
+use text::utf8::is_whole;
 
 // How long a body's content is, or that it has none.
 pub enum Measure {
@@ -35,13 +35,13 @@ fn plain_front(s: &[u8]) -> usize
     let mut i = 0;
     while i < s.len() {
         let b = s[i];
-        if b < 0x20 {
+        if b < b' ' {
             return i;
         }
-        if 0x7e < b {
+        if b'~' < b {
             return i;
         }
-        if b == 0x5c {
+        if b == b'\\' {
             return i;
         }
         i += 1;
@@ -63,30 +63,30 @@ fn written_front(body: Body, s: &[u8]) -> usize
 
 // The length of a body's content. A text's must be UTF-8: the machine that judges it is fed along. Both start after the bytes that
 // stand for themselves.
-pub fn measure_content(sw: Switches, text: bool, body: Body, s: &[u8]) -> Measure
-    ensures { λ r. ⌜ r ≡ measured (contentOf sw text body (now (s .entry))) ⌝ }
+pub fn measure_content(sw: Switches, is_text: bool, body: Body, s: &[u8]) -> Measure
+    ensures { λ r. ⌜ r ≡ measured (contentOf sw «is_text» body (now (s .entry))) ⌝ }
 {
     let from = written_front(body, s);
-    let mut st = start_of(body);
-    let mut u = Utf8::Whole(from);
-    let mut n = from;
+    let mut state = start_of(body);
+    let mut machine = Utf8::Whole(from);
+    let mut size = from;
     let mut i = from;
     while i < s.len() {
-        let d = decode_step(sw, st, s[i]);
-        let out = d.out;
-        st = d.state;
-        n += few_len(out);
-        u = feed_text(text, u, out);
+        let step = decode_step(sw, state, s[i]);
+        let out = step.out;
+        state = step.state;
+        size += few_len(out);
+        machine = feed_text(is_text, machine, out);
         i += 1;
     }
-    if may_end(st) {
-        if text {
-            if is_whole(u) {
-                return Measure::Length(n);
+    if may_end(state) {
+        if is_text {
+            if is_whole(machine) {
+                return Measure::Length(size);
             }
             return Measure::Refused;
         }
-        return Measure::Length(n);
+        return Measure::Length(size);
     }
     Measure::Refused
 }
@@ -96,24 +96,24 @@ fn fill_front(sw: Switches, body: Body, s: &[u8], out: &mut [u8])
     requires { ⌜ HasRoom (content sw body (now s)) (length (now out)) ⌝ }
     ensures { λ _. ⌜ now (out .exit) ≡ placed (content sw body (now (s .entry))) (now (out .entry)) ⌝ }
 {
-    let mut st = start_of(body);
-    let mut k = 0;
+    let mut state = start_of(body);
+    let mut filled = 0;
     let mut i = 0;
     while i < s.len() {
-        let d = decode_step(sw, st, s[i]);
-        let few = d.out;
-        st = d.state;
-        put_few(out, k, few);
-        k += few_len(few);
+        let step = decode_step(sw, state, s[i]);
+        let few = step.out;
+        state = step.state;
+        put_few(out, filled, few);
+        filled += few_len(few);
         i += 1;
     }
 }
 
 // Writes a body's content at the output's front, if it has one and the output has room for it.
-pub fn write_content(sw: Switches, text: bool, body: Body, s: &[u8], out: &mut [u8]) -> Written
-    ensures { λ r. ⌜ (r ≡ fitted (length (now (out .entry))) (contentOf sw text body (now (s .entry)))) × (now (out .exit) ≡ placed (contentOf sw text body (now (s .entry))) (now (out .entry))) ⌝ }
+pub fn write_content(sw: Switches, is_text: bool, body: Body, s: &[u8], out: &mut [u8]) -> Written
+    ensures { λ r. ⌜ (r ≡ fitted (length (now (out .entry))) (contentOf sw «is_text» body (now (s .entry)))) × (now (out .exit) ≡ placed (contentOf sw «is_text» body (now (s .entry))) (now (out .entry))) ⌝ }
 {
-    match measure_content(sw, text, body, s) {
+    match measure_content(sw, is_text, body, s) {
         Measure::Refused => Written::Refused,
         Measure::Length(n) => {
             if out.len() < n {

@@ -25,9 +25,28 @@ ghost use Rattle.literals.specs.Content.{
 };
 ghost use Rattle.literals.specs.InternalContent.{Sound, hexRoom, bitRoom};
 use text::bytes::digit_value;
+use text::few::Few;
 use text::switches::Switches;
-use text::utf8::Few;
 use text::utf8::utf8_of;
+
+// Control characters: the last of those below the space, and those that have no literal of their own.
+const LAST_CONTROL: u8 = 0x1f;
+
+const BACKSPACE: u8 = 0x08;
+
+const FORM_FEED: u8 = 0x0c;
+
+const DELETE: u8 = 0x7f;
+
+// The scalar values are those up to the last but the surrogates.
+const FIRST_SURROGATE: u32 = 0xd800;
+
+const LAST_SURROGATE: u32 = 0xdfff;
+
+const LAST_SCALAR: u32 = 0x10ffff;
+
+// What is answered for a byte that is no base64 digit: above every digit's value.
+const NO_SEXTET: u8 = 64;
 
 // What stands between the quotes, or a word: how its bytes are to be decoded.
 pub enum Body {
@@ -59,7 +78,7 @@ pub struct Decoded {
 }
 
 // The decoder at the start of a body.
-pub fn start_of(body: Body) -> Decoder
+pub(crate) fn start_of(body: Body) -> Decoder
     ensures { λ r. ⌜ r ≡ startOf body ⌝ }
 {
     match body {
@@ -94,13 +113,13 @@ fn single(state: Decoder, b: u8) -> Decoded
 fn quoted_refuses(sw: Switches, b: u8) -> bool
     ensures { λ r. ⌜ r ≡ quotedRefuses sw b ⌝ }
 {
-    if 0x1f < b {
-        return b == 0x7f;
+    if LAST_CONTROL < b {
+        return b == DELETE;
     }
-    if b == 0x09 {
+    if b == b'\t' {
         return !sw.quoted_tab;
     }
-    if b == 0x0a {
+    if b == b'\n' {
         return !sw.quoted_feed;
     }
     true
@@ -109,7 +128,7 @@ fn quoted_refuses(sw: Switches, b: u8) -> bool
 fn plain_step(sw: Switches, b: u8) -> Decoded
     ensures { λ r. ⌜ r ≡ plainStep sw b ⌝ }
 {
-    if b == 0x5c {
+    if b == b'\\' {
         return silent(Decoder::Escape);
     }
     if quoted_refuses(sw, b) {
@@ -122,14 +141,14 @@ fn plain_step(sw: Switches, b: u8) -> Decoded
 fn many_digits(sw: Switches, b: u8) -> Decoded
     ensures { λ r. ⌜ r ≡ manyDigits sw b ⌝ }
 {
-    if b == 0x78 {
+    if b == b'x' {
         return silent(Decoder::Hex {
             byte: true,
             left: 1,
             v: 0,
         });
     }
-    if b == 0x75 {
+    if b == b'u' {
         return silent(Decoder::Hex {
             byte: false,
             left: 3,
@@ -137,7 +156,7 @@ fn many_digits(sw: Switches, b: u8) -> Decoded
         });
     }
     if sw.long_escape {
-        if b == 0x55 {
+        if b == b'U' {
             return silent(Decoder::Hex {
                 byte: false,
                 left: 7,
@@ -153,29 +172,29 @@ fn many_digits(sw: Switches, b: u8) -> Decoded
 fn escape_step(sw: Switches, b: u8) -> Decoded
     ensures { λ r. ⌜ r ≡ escapeStep sw b ⌝ }
 {
-    if b == 0x30 {
-        return single(Decoder::Plain, 0x00);
+    if b == b'0' {
+        return single(Decoder::Plain, b'\0');
     }
-    if b == 0x62 {
-        return single(Decoder::Plain, 0x08);
+    if b == b'b' {
+        return single(Decoder::Plain, BACKSPACE);
     }
-    if b == 0x74 {
-        return single(Decoder::Plain, 0x09);
+    if b == b't' {
+        return single(Decoder::Plain, b'\t');
     }
-    if b == 0x6e {
-        return single(Decoder::Plain, 0x0a);
+    if b == b'n' {
+        return single(Decoder::Plain, b'\n');
     }
-    if b == 0x66 {
-        return single(Decoder::Plain, 0x0c);
+    if b == b'f' {
+        return single(Decoder::Plain, FORM_FEED);
     }
-    if b == 0x72 {
-        return single(Decoder::Plain, 0x0d);
+    if b == b'r' {
+        return single(Decoder::Plain, b'\r');
     }
-    if b == 0x22 {
-        return single(Decoder::Plain, 0x22);
+    if b == b'"' {
+        return single(Decoder::Plain, b'"');
     }
-    if b == 0x5c {
-        return single(Decoder::Plain, 0x5c);
+    if b == b'\\' {
+        return single(Decoder::Plain, b'\\');
     }
     many_digits(sw, b)
 }
@@ -199,13 +218,13 @@ fn hex_done(byte: bool, v: u32) -> Decoded
     if byte {
         return single(Decoder::Plain, v as u8);
     }
-    if v < 0xd800 {
+    if v < FIRST_SURROGATE {
         return scalar_done(v);
     }
-    if v < 0xe000 {
+    if v <= LAST_SURROGATE {
         return silent(Decoder::Bad);
     }
-    if v <= 0x10ffff {
+    if v <= LAST_SCALAR {
         return scalar_done(v);
     }
     silent(Decoder::Bad)
@@ -241,16 +260,16 @@ fn hex_step(byte: bool, left: usize, v: u32, b: u8) -> Decoded
 fn raw_refuses(sw: Switches, b: u8) -> bool
     ensures { λ r. ⌜ r ≡ rawRefuses sw b ⌝ }
 {
-    if b == 0x7f {
+    if b == DELETE {
         return true;
     }
-    if 0x1f < b {
+    if LAST_CONTROL < b {
         return false;
     }
-    if b == 0x0a {
+    if b == b'\n' {
         return false;
     }
-    if b == 0x0d {
+    if b == b'\r' {
         return !sw.raw_return;
     }
     true
@@ -268,47 +287,47 @@ fn raw_step(sw: Switches, b: u8) -> Decoded
 fn is_space(b: u8) -> bool
     ensures { λ r. ⌜ r ≡ isSpace b ⌝ }
 {
-    if b == 0x09 {
+    if b == b'\t' {
         return true;
     }
-    if b == 0x0a {
+    if b == b'\n' {
         return true;
     }
-    if b == 0x0d {
+    if b == b'\r' {
         return true;
     }
-    b == 0x20
+    b == b' '
 }
 
-// The value of a base64 digit; 64 for any other byte.
+// The value of a base64 digit; NO_SEXTET for any other byte.
 fn sextet(b: u8) -> u8
     ensures { λ r. ⌜ r ≡ sextet b ⌝ }
 {
-    if b == 43 {
+    if b == b'+' {
         return 62;
     }
-    if b < 47 {
-        return 64;
+    if b < b'/' {
+        return NO_SEXTET;
     }
-    if b == 47 {
+    if b == b'/' {
         return 63;
     }
-    if b <= 57 {
-        return b - 48 + 52;
+    if b <= b'9' {
+        return b - b'0' + 52;
     }
-    if b < 65 {
-        return 64;
+    if b < b'A' {
+        return NO_SEXTET;
     }
-    if b <= 90 {
-        return b - 65;
+    if b <= b'Z' {
+        return b - b'A';
     }
-    if b < 97 {
-        return 64;
+    if b < b'a' {
+        return NO_SEXTET;
     }
-    if b <= 122 {
-        return b - 97 + 26;
+    if b <= b'z' {
+        return b - b'a' + 26;
     }
-    64
+    NO_SEXTET
 }
 
 // A base64 digit of value v: the bits that it adds to `rest` make a byte, but for the first digit of four.
@@ -355,14 +374,14 @@ fn digits_step(q: u8, rest: u8, b: u8) -> Decoded
     if is_space(b) {
         return silent(Decoder::Digits { q, rest });
     }
-    if b == 61 {
+    if b == b'=' {
         if whole_bytes(q, rest) {
             return pad_step((4 - q) % 4);
         }
         return silent(Decoder::Bad);
     }
     let v = sextet(b);
-    if v < 64 {
+    if v < NO_SEXTET {
         return base64_digit(q, rest, v);
     }
     silent(Decoder::Bad)
@@ -374,19 +393,19 @@ fn pads_step(left: u8, b: u8) -> Decoded
     if is_space(b) {
         return silent(Decoder::Pads { left });
     }
-    if b == 61 {
+    if b == b'=' {
         return pad_step(left);
     }
     silent(Decoder::Bad)
 }
 
-// The decoder after one byte more. Public for the modules beside this one, which start it at `start_of` and feed it bytes: then
-// its numbers have room for what is due.
-pub fn decode_step(sw: Switches, st: Decoder, b: u8) -> Decoded
-    requires { ⌜ Sound st ⌝ }
-    ensures { λ r. ⌜ r ≡ decodeStep sw st b ⌝ }
+// The decoder after one byte more. The modules beside this one start it at `start_of` and feed it bytes: then its numbers have room
+// for what is due.
+pub(crate) fn decode_step(sw: Switches, state: Decoder, b: u8) -> Decoded
+    requires { ⌜ Sound state ⌝ }
+    ensures { λ r. ⌜ r ≡ decodeStep sw state b ⌝ }
 {
-    match st {
+    match state {
         Decoder::Plain => plain_step(sw, b),
         Decoder::Escape => escape_step(sw, b),
         Decoder::Hex { byte, left, v } => hex_step(byte, left, v, b),
@@ -399,10 +418,10 @@ pub fn decode_step(sw: Switches, st: Decoder, b: u8) -> Decoded
 }
 
 // Whether a body may end where the decoder stands.
-pub fn may_end(st: Decoder) -> bool
-    ensures { λ r. ⌜ r ≡ mayEnd st ⌝ }
+pub(crate) fn may_end(state: Decoder) -> bool
+    ensures { λ r. ⌜ r ≡ mayEnd state ⌝ }
 {
-    match st {
+    match state {
         Decoder::Plain => true,
         Decoder::Escape => false,
         Decoder::Hex {

@@ -3,6 +3,5 @@
 pub mod compare;
 pub mod content;
 pub mod decoder;
-pub mod few;
 pub mod number;
 pub mod word;

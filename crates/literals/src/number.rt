@@ -10,8 +10,11 @@ use text::bytes::digit_value;
 // The greatest integer, and the greatest m of a decimal.
 const MOST: u64 = 9223372036854775807;
 
+// The greatest p of a decimal; the least is its negative.
+const MOST_POWER: u64 = 400;
+
 // The digits so far and the exponent are kept exact up to this. Above it a number is refused, whatever follows: it is above MOST,
-// and above every count of fraction digits by more than 400.
+// and above every count of fraction digits by more than MOST_POWER.
 const CAP: u64 = 10000000000000000000;
 
 // Where a number stands, named by its last byte, with what has been read: whether a sign (signed) and a minus, the whole number
@@ -105,11 +108,11 @@ fn and_digit(base: u64, m: u64, d: u64) -> u64
     if CAP / base < m {
         return CAP;
     }
-    let n = m * base + d;
-    if CAP < n {
+    let longer = m * base + d;
+    if CAP < longer {
         return CAP;
     }
-    n
+    longer
 }
 
 // The value of a digit in a base up to 16, or 16, as wide as what it is added to.
@@ -123,32 +126,32 @@ fn digit_of(b: u8) -> u64
 fn is_e(b: u8) -> bool
     ensures { λ r. ⌜ r ≡ isE b ⌝ }
 {
-    if b == 101 {
+    if b == b'e' {
         return true;
     }
-    b == 69
+    b == b'E'
 }
 
 fn is_one_to_nine(b: u8) -> bool
     ensures { λ r. ⌜ r ≡ isOneToNine b ⌝ }
 {
-    if b < 49 {
+    if b < b'1' {
         return false;
     }
-    b <= 57
+    b <= b'9'
 }
 
 // The base that a letter after a first 0 names, or 0.
 fn base_of(b: u8) -> u64
     ensures { λ r. ⌜ r ≡ baseOf b ⌝ }
 {
-    if b == 120 {
+    if b == b'x' {
         return 16;
     }
-    if b == 111 {
+    if b == b'o' {
         return 8;
     }
-    if b == 98 {
+    if b == b'b' {
         return 2;
     }
     0
@@ -159,13 +162,13 @@ fn base_of(b: u8) -> u64
 fn start_step(b: u8) -> Number
     ensures { λ r. ⌜ capped r ≡ capped (numberStep Number.Start b) ⌝ }
 {
-    if b == 43 {
+    if b == b'+' {
         return Number::Sign { minus: false };
     }
-    if b == 45 {
+    if b == b'-' {
         return Number::Sign { minus: true };
     }
-    if b == 48 {
+    if b == b'0' {
         return Number::Zero {
             signed: false,
             minus: false,
@@ -183,7 +186,7 @@ fn start_step(b: u8) -> Number
 fn sign_step(minus: bool, b: u8) -> Number
     ensures { λ r. ⌜ capped r ≡ capped (numberStep (Number.Sign minus) b) ⌝ }
 {
-    if b == 48 {
+    if b == b'0' {
         return Number::Zero {
             signed: true,
             minus,
@@ -201,7 +204,7 @@ fn sign_step(minus: bool, b: u8) -> Number
 fn zero_step(signed: bool, minus: bool, b: u8) -> Number
     ensures { λ r. ⌜ capped r ≡ capped (numberStep (Number.Zero signed minus) b) ⌝ }
 {
-    if b == 46 {
+    if b == b'.' {
         return Number::Dot { minus, m: 0 };
     }
     if is_e(b) {
@@ -231,10 +234,10 @@ fn digit_step(minus: bool, m: u64, b: u8) -> Number
             m: and_digit(10, m, d),
         };
     }
-    if b == 95 {
+    if b == b'_' {
         return Number::Gap { minus, m };
     }
-    if b == 46 {
+    if b == b'.' {
         return Number::Dot { minus, m };
     }
     if is_e(b) {
@@ -294,7 +297,7 @@ fn based_step(base: u64, m: u64, b: u8) -> Number
             m: and_digit(base, m, d),
         };
     }
-    if b == 95 {
+    if b == b'_' {
         return Number::BasedGap { base, m };
     }
     Number::Bad
@@ -325,7 +328,7 @@ fn fraction_step(minus: bool, m: u64, places: u64, b: u8) -> Number
             places: places + 1,
         };
     }
-    if b == 95 {
+    if b == b'_' {
         return Number::FractionGap { minus, m, places };
     }
     if is_e(b) {
@@ -352,7 +355,7 @@ fn fraction_gap_step(minus: bool, m: u64, places: u64, b: u8) -> Number
 fn mark_step(minus: bool, m: u64, places: u64, b: u8) -> Number
     ensures { λ r. ⌜ capped r ≡ capped (numberStep (Number.Mark minus m places) b) ⌝ }
 {
-    if b == 43 {
+    if b == b'+' {
         return Number::ExpSign {
             minus,
             m,
@@ -360,7 +363,7 @@ fn mark_step(minus: bool, m: u64, places: u64, b: u8) -> Number
             below: false,
         };
     }
-    if b == 45 {
+    if b == b'-' {
         return Number::ExpSign {
             minus,
             m,
@@ -391,7 +394,7 @@ fn exp_sign_step(minus: bool, m: u64, places: u64, below: bool, b: u8) -> Number
 fn exp_digit_step(minus: bool, m: u64, places: u64, below: bool, exp: u64, b: u8) -> Number
     ensures { λ r. ⌜ capped r ≡ capped (numberStep (Number.ExpDigit minus m places below exp) b) ⌝ }
 {
-    if b == 95 {
+    if b == b'_' {
         return Number::ExpGap {
             minus,
             m,
@@ -421,11 +424,11 @@ fn exp_gap_step(minus: bool, m: u64, places: u64, below: bool, exp: u64, b: u8) 
 }
 
 // The machine after one byte more.
-fn number_step(n: Number, b: u8) -> Number
-    requires { ⌜ placesOf n < 18446744073709551615 ⌝ }
-    ensures { λ r. ⌜ capped r ≡ capped (numberStep n b) ⌝ }
+fn number_step(state: Number, b: u8) -> Number
+    requires { ⌜ placesOf state < 18446744073709551615 ⌝ }
+    ensures { λ r. ⌜ capped r ≡ capped (numberStep state b) ⌝ }
 {
-    match n {
+    match state {
         Number::Start => start_step(b),
         Number::Bad => Number::Bad,
         Number::Sign { minus } => sign_step(minus, b),
@@ -473,8 +476,8 @@ fn as_integer(minus: bool, m: u64) -> Meaning
         if m == 0 {
             return Meaning::Integer(0);
         }
-        let k = (m - 1) as i64;
-        return Meaning::Integer(-1 - k);
+        let less = (m - 1) as i64;
+        return Meaning::Integer(-1 - less);
     }
     if MOST < m {
         return Meaning::TooWide;
@@ -482,17 +485,17 @@ fn as_integer(minus: bool, m: u64) -> Meaning
     Meaning::Integer(m as i64)
 }
 
-// A decimal's meaning with the power n, or -n where it is below 0.
-fn as_decimal(minus: bool, m: u64, below: bool, n: u64) -> Meaning
-    ensures { λ r. ⌜ r ≡ asDecimal minus m (signedBy below n) ⌝ }
+// A decimal's meaning with this power, or its negative where it is below 0.
+fn as_decimal(minus: bool, m: u64, below: bool, power: u64) -> Meaning
+    ensures { λ r. ⌜ r ≡ asDecimal minus m (signedBy below power) ⌝ }
 {
     if MOST < m {
         return Meaning::TooWide;
     }
-    if 400 < n {
+    if MOST_POWER < power {
         return Meaning::TooWide;
     }
-    let p = n as i64;
+    let p = power as i64;
     if below {
         return Meaning::Decimal { minus, m, p: 0 - p };
     }
@@ -504,10 +507,10 @@ fn with_exponent(minus: bool, m: u64, places: u64, below: bool, exp: u64) -> Mea
     ensures { λ r. ⌜ r ≡ asDecimal minus m (signedBy below exp +ℤ negℤ (pos places)) ⌝ }
 {
     if below {
-        if 400 < exp {
+        if MOST_POWER < exp {
             return Meaning::TooWide;
         }
-        if 400 < places {
+        if MOST_POWER < places {
             return Meaning::TooWide;
         }
         return as_decimal(minus, m, true, exp + places);
@@ -519,10 +522,10 @@ fn with_exponent(minus: bool, m: u64, places: u64, below: bool, exp: u64) -> Mea
 }
 
 // What the machine means where it stops.
-fn meaning_of(n: Number) -> Meaning
-    ensures { λ r. ⌜ r ≡ meaning n ⌝ }
+fn meaning_of(state: Number) -> Meaning
+    ensures { λ r. ⌜ r ≡ meaning state ⌝ }
 {
-    match n {
+    match state {
         Number::Start => Meaning::Malformed,
         Number::Bad => Meaning::Malformed,
         Number::Sign { minus: _ } => Meaning::Malformed,
@@ -571,11 +574,11 @@ fn meaning_of(n: Number) -> Meaning
 pub fn number_of(token: &[u8]) -> Meaning
     ensures { λ r. ⌜ r ≡ number (now (token .entry)) ⌝ }
 {
-    let mut n = Number::Start;
+    let mut state = Number::Start;
     let mut i = 0;
     while i < token.len() {
-        n = number_step(n, token[i]);
+        state = number_step(state, token[i]);
         i += 1;
     }
-    meaning_of(n)
+    meaning_of(state)
 }

@@ -16,16 +16,16 @@ pub enum Shape {
 fn is_letter(b: u8) -> bool
     ensures { λ r. ⌜ r ≡ (isCapital b || isSmall b) ⌝ }
 {
-    if b < 65 {
+    if b < b'A' {
         return false;
     }
-    if b <= 90 {
+    if b <= b'Z' {
         return true;
     }
-    if b < 97 {
+    if b < b'a' {
         return false;
     }
-    b <= 122
+    b <= b'z'
 }
 
 fn is_letter_or_digit(b: u8) -> bool
@@ -34,29 +34,29 @@ fn is_letter_or_digit(b: u8) -> bool
     if is_letter(b) {
         return true;
     }
-    if b < 48 {
+    if b < b'0' {
         return false;
     }
-    b <= 57
+    b <= b'9'
 }
 
 // Whether a `_` or `-` stands here.
 fn is_joiner(b: u8) -> bool
     ensures { λ r. ⌜ r ≡ isJoiner b ⌝ }
 {
-    if b == 95 {
+    if b == b'_' {
         return true;
     }
-    b == 45
+    b == b'-'
 }
 
 // The shape after one byte more.
-fn shape_step(s: Shape, b: u8) -> Shape
-    ensures { λ r. ⌜ r ≡ shapeStep s b ⌝ }
+fn shape_step(state: Shape, b: u8) -> Shape
+    ensures { λ r. ⌜ r ≡ shapeStep state b ⌝ }
 {
-    match s {
+    match state {
         Shape::Start => {
-            if b == 95 {
+            if b == b'_' {
                 return Shape::Lead;
             }
             if is_letter(b) {
@@ -89,10 +89,10 @@ fn shape_step(s: Shape, b: u8) -> Shape
     }
 }
 
-fn is_good(s: Shape) -> bool
-    ensures { λ r. ⌜ r ≡ isGood s ⌝ }
+fn is_good(state: Shape) -> bool
+    ensures { λ r. ⌜ r ≡ isGood state ⌝ }
 {
-    match s {
+    match state {
         Shape::Start => false,
         Shape::Lead => false,
         Shape::Good => true,
@@ -105,11 +105,11 @@ fn is_good(s: Shape) -> bool
 pub fn has_shape(s: &[u8]) -> bool
     ensures { λ r. ⌜ r ≡ hasShape (now (s .entry)) ⌝ }
 {
-    let mut st = Shape::Start;
+    let mut state = Shape::Start;
     let mut i = 0;
     while i < s.len() {
-        st = shape_step(st, s[i]);
+        state = shape_step(state, s[i]);
         i += 1;
     }
-    is_good(st)
+    is_good(state)
 }

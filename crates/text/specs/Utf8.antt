@@ -9,8 +9,8 @@ use lib.Dec.{leb, ltb, eqb}
 use Rattle.text.specs.Bytes.{feed, within}
 use Rattle.text.specs.declared.utf8.Utf8.{Utf8}
 use Rattle.text.specs.declared.utf8.Utf8.the-variants.{Whole, Part, Broken}
-use Rattle.text.specs.declared.utf8.Few.{Few}
-use Rattle.text.specs.declared.utf8.Few.the-variants.{Zero, One, Two, Three, Four}
+use Rattle.text.specs.declared.few.Few.{Few}
+use Rattle.text.specs.declared.few.Few.the-variants.{Zero, One, Two, Three, Four}
 
 -- a character's first byte, after n bytes: the rows of RFC 3629's UTF8-1 to UTF8-4, in its order
 unfoldable pub lead : ℕ → ℕ → Utf8

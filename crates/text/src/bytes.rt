@@ -1,9 +1,42 @@
-// The class of a byte, and its value as a digit.
+// Bytes: the one at a place, the class of one, its value as a digit; and two slices against each other.
 ghost use mathlib.Core.Path.{_≡_};
+ghost use lib.ListN.{getD};
 ghost use Rattle.text.specs.Bytes.{classOf, classNumber, digitValue, sameBytes};
 
-// The class of each of the 256 bytes, by number: space 0, digit 1, capital 2, small letter 3, joiner 4, quote 5, tick 6, mark 7,
-// slash 8, plus 9, other 10. Letters, digits and joiners, the bytes of a word, are 1 to 4.
+// The byte at a place; 0 past the end.
+pub fn byte_at(s: &[u8], i: usize) -> u8
+    ensures { λ r. ⌜ r ≡ getD (now (s .entry)) i 0 ⌝ }
+{
+    if i < s.len() {
+        return s[i];
+    }
+    0
+}
+
+// The classes by number. Letters, digits and joiners, the bytes of a word, are 1 to 4.
+pub const SPACE: u8 = 0;
+
+pub const DIGIT: u8 = 1;
+
+pub const CAPITAL: u8 = 2;
+
+pub const SMALL: u8 = 3;
+
+pub const JOINER: u8 = 4;
+
+pub const QUOTE: u8 = 5;
+
+pub const TICK: u8 = 6;
+
+pub const MARK: u8 = 7;
+
+pub const SLASH: u8 = 8;
+
+pub const PLUS: u8 = 9;
+
+pub const OTHER: u8 = 10;
+
+// The class of each of the 256 bytes.
 pub const CLASS: [u8; 256] = [
     10,
     10,
@@ -270,29 +303,32 @@ pub fn class_of(b: u8) -> u8
     CLASS[b as usize]
 }
 
+// What is answered for a byte that is no digit: above every digit's value, as bases go up to 16.
+const NO_DIGIT: u8 = 16;
+
 // The value of a digit in a base up to 16, hex digits in either case; 16 for any other byte.
 pub fn digit_value(b: u8) -> u8
     ensures { λ r. ⌜ r ≡ digitValue b ⌝ }
 {
-    if b < 48 {
-        return 16;
+    if b < b'0' {
+        return NO_DIGIT;
     }
-    if b <= 57 {
-        return b - 48;
+    if b <= b'9' {
+        return b - b'0';
     }
-    if b < 65 {
-        return 16;
+    if b < b'A' {
+        return NO_DIGIT;
     }
-    if b <= 70 {
-        return b - 65 + 10;
+    if b <= b'F' {
+        return b - b'A' + 10;
     }
-    if b < 97 {
-        return 16;
+    if b < b'a' {
+        return NO_DIGIT;
     }
-    if b <= 102 {
-        return b - 97 + 10;
+    if b <= b'f' {
+        return b - b'a' + 10;
     }
-    16
+    NO_DIGIT
 }
 
 // Whether two slices hold the same bytes. They are compared from their ends, as names in one place often begin alike.

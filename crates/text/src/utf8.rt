@@ -2,8 +2,9 @@
 ghost use mathlib.Core.Path.{_≡_};
 ghost use Prim.Native.Nat.{_<_, _≤_, _+_};
 ghost use lib.ListN.{length, drop, getD};
-ghost use Rattle.text.specs.Utf8.{lead, later, utf8Step, utf8, wholeFront, plainEight, plainEights, encode};
+ghost use Rattle.text.specs.Utf8.{lead, later, utf8Step, utf8, isWhole, wholeFront, plainEight, plainEights, encode};
 ghost use Rattle.text.specs.Internal.{bytesRead, isPart, characterEnd};
+use crate::few::Few;
 
 // Where the machine stands. Whole(n): n bytes, all of whole characters. Part: n bytes of whole characters, then `read` bytes of
 // a begun one; its next byte lies in low..high, and `more` bytes follow that. Broken(n): what follows the first n bytes is no
@@ -18,15 +19,6 @@ pub enum Utf8 {
         high: u8,
     },
     Broken(usize),
-}
-
-// Up to four bytes, by value.
-pub enum Few {
-    Zero,
-    One(u8),
-    Two(u8, u8),
-    Three(u8, u8, u8),
-    Four(u8, u8, u8, u8),
 }
 
 // The machine after a character's first byte.
@@ -137,6 +129,23 @@ fn front_of(u: Utf8) -> usize
             high: _,
         } => n,
         Utf8::Broken(n) => n,
+    }
+}
+
+// Whether the machine stands between characters.
+pub fn is_whole(u: Utf8) -> bool
+    ensures { λ r. ⌜ r ≡ isWhole u ⌝ }
+{
+    match u {
+        Utf8::Whole(_) => true,
+        Utf8::Part {
+            n: _,
+            read: _,
+            more: _,
+            low: _,
+            high: _,
+        } => false,
+        Utf8::Broken(_) => false,
     }
 }
 

@@ -4,7 +4,7 @@ use mathlib.Core.Path.{sym, _∙_}
 use mathlib.Core.Bool.{true, false}
 use Prim.Native.Nat.{_-_}
 use lib.ListN.{length}
-use Rattle.text.specs.declared.utf8.Few.the-variants.{Zero, One, Two, Three}
+use Rattle.text.specs.declared.few.Few.the-variants.{Zero, One, Two, Three}
 use Rattle.literals.specs.InternalContent.{cursorAt}
 use Rattle.literals.proofs.CursorLaws.{Walked, walk-start, walk-byte, walk-turn, walk-end, first-one, first-two, first-three, first-four}
 use Rattle.literals.proofs.compare.next_byte.Statement.{statement}
@@ -16,10 +16,10 @@ use Rattle.literals.proofs.decoder.decode_step.Reads as decode-step-rea
 use Rattle.literals.proofs.decoder.may_end.Reads as may-end-reads
 
 abbrev Inv-loop : tie.InvT-loop
-Inv-loop sw s i₀ st₀ few₀ i st few = Walked sw s (cursorAt i₀ st₀ few₀) (cursorAt i st few)
+Inv-loop sw s i₀ state₀ few₀ i state few = Walked sw s (cursorAt i₀ state₀ few₀) (cursorAt i state few)
 
 abbrev μ-loop : tie.MeasureT-loop
-μ-loop sw s i₀ st₀ few₀ i st few = length s - i
+μ-loop sw s i₀ state₀ few₀ i state few = length s - i
 
 loop-holds : tie.Need-loop-holds Inv-loop μ-loop
 loop-holds c = walk-start _ _ _ (c .before .pre)

@@ -9,14 +9,14 @@ use Rattle.literals.proofs.content.fill_front.Reads as reads
 use Rattle.literals.proofs.content.fill_front.Lts as lts
 use Rattle.literals.proofs.decoder.decode_step.Reads as decode-step-reads
 use Rattle.literals.proofs.decoder.start_of.Reads as start-of-reads
-use Rattle.literals.proofs.few.few_len.Reads as few-len-reads
-use Rattle.literals.proofs.few.put_few.Reads as put-few-reads
+use Rattle.text.proofs.few.few_len.Reads as few-len-reads
+use Rattle.text.proofs.few.put_few.Reads as put-few-reads
 
 abbrev Inv-loop : tie.InvT-loop
-Inv-loop sw s out₀ st₀ k₀ i₀ out st k i = Filled sw st₀ s out₀ out st k i
+Inv-loop sw s out₀ state₀ filled₀ i₀ out state filled i = Filled sw state₀ s out₀ out state filled i
 
 abbrev μ-loop : tie.MeasureT-loop
-μ-loop sw s out₀ st₀ k₀ i₀ out st k i = length s - i
+μ-loop sw s out₀ state₀ filled₀ i₀ out state filled i = length s - i
 
 start-of-requires : tie.Need-start-of-requires Inv-loop μ-loop
 start-of-requires c κs = search needs
@@ -36,8 +36,8 @@ put-few-requires c κs = fill-room (c .before .before .before .before .loop .inv
 few-len-requires : tie.Need-few-len-requires Inv-loop μ-loop
 few-len-requires c κs = search needs
 
-add-k : tie.Need-add-k Inv-loop μ-loop
-add-k c = let r = fill-room (c .before .before .before .before .before .before .before .before .loop .inv) (c .before .before .before .before .before .decode-step .result) (omega arith) (c .before .before .before .before .before .decode-step .ensures) in omega arith
+add-filled : tie.Need-add-filled Inv-loop μ-loop
+add-filled c = let r = fill-room (c .before .before .before .before .before .before .before .before .loop .inv) (c .before .before .before .before .before .decode-step .result) (omega arith) (c .before .before .before .before .before .decode-step .ensures) in omega arith
 
 add-i : tie.Need-add-i Inv-loop μ-loop
 add-i c = omega arith
@@ -66,7 +66,7 @@ fill-front-spec =
     decode-step-requires
     put-few-requires
     few-len-requires
-    add-k
+    add-filled
     add-i
     loop-less
     loop-again

@@ -13,15 +13,15 @@ use Rattle.literals.proofs.content.written_front.Reads as written-front
 use Rattle.literals.proofs.decoder.decode_step.Reads as decode-step-reads
 use Rattle.literals.proofs.decoder.may_end.Reads as may-end-reads
 use Rattle.literals.proofs.decoder.start_of.Reads as start-of-reads
-use Rattle.literals.proofs.few.feed_text.Reads as feed-text-reads
-use Rattle.literals.proofs.few.few_len.Reads as few-len-reads
-use Rattle.literals.proofs.few.is_whole.Reads as is-whole-reads
+use Rattle.text.proofs.few.feed_text.Reads as feed-text-reads
+use Rattle.text.proofs.few.few_len.Reads as few-len-reads
+use Rattle.text.proofs.utf8.is_whole.Reads as is-whole-reads
 
 abbrev Inv-loop : tie.InvT-loop
-Inv-loop sw text s from st₀ u₀ n₀ i₀ st u n i = Tallied sw text st₀ s st u n i
+Inv-loop sw is-text s from state₀ machine₀ size₀ i₀ state machine size i = Tallied sw is-text state₀ s state machine size i
 
 abbrev μ-loop : tie.MeasureT-loop
-μ-loop sw text s from st₀ u₀ n₀ i₀ st u n i = length s - i
+μ-loop sw is-text s from state₀ machine₀ size₀ i₀ state machine size i = length s - i
 
 written-front-requires : tie.Need-written-front-requires Inv-loop μ-loop
 written-front-requires c κs = search needs
@@ -41,8 +41,8 @@ decode-step-requires c κs = c .before .before .loop .inv .sound
 few-len-requires : tie.Need-few-len-requires Inv-loop μ-loop
 few-len-requires c κs = search needs
 
-add-n : tie.Need-add-n Inv-loop μ-loop
-add-n c = let r = tally-room (c .before .before .before .before .loop .inv) (c .before .decode-step .result) (c .before .decode-step .ensures) in omega arith
+add-size : tie.Need-add-size Inv-loop μ-loop
+add-size c = let r = tally-room (c .before .before .before .before .loop .inv) (c .before .decode-step .result) (c .before .decode-step .ensures) in omega arith
 
 feed-text-requires : tie.Need-feed-text-requires Inv-loop μ-loop
 feed-text-requires c κs = let A = c .before .before .before .before .loop .inv in omega arith
@@ -86,7 +86,7 @@ measure-content-spec =
     shared-slice-read-decode-step
     decode-step-requires
     few-len-requires
-    add-n
+    add-size
     feed-text-requires
     add-i
     loop-less

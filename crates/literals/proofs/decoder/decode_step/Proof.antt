@@ -1,3 +1,4 @@
+use native.Mathlib.Omega.{arith}
 use Rattle.literals.specs.Content.{decodeStep}
 use Rattle.literals.specs.InternalContent.{Sound}
 use borrow.Author.Needs.{needs}
@@ -26,12 +27,12 @@ enum-told-2 c = search needs
 escape-step-requires : tie.Need-escape-step-requires
 escape-step-requires c κs = search needs
 
-enum-known-st : tie.Need-enum-known-st
-enum-known-st c = search needs
+enum-known-state : tie.Need-enum-known-state
+enum-known-state c = search needs
 
 hex-step-requires : tie.Need-hex-step-requires
 unfolding decodeStep Sound
-hex-step-requires c κs = rw (c .before .st .given .1) at (c .before .before .before .pre)
+hex-step-requires c κs = rw (c .before .state .given .1) at (c .before .before .before .pre)
 
 enum-told-3 : tie.Need-enum-told-3
 enum-told-3 c = search needs
@@ -45,15 +46,15 @@ enum-told-4 c = search needs
 single-requires : tie.Need-single-requires
 single-requires c κs = search needs
 
-enum-known-st-2 : tie.Need-enum-known-st-2
-enum-known-st-2 c = search needs
+enum-known-state-2 : tie.Need-enum-known-state-2
+enum-known-state-2 c = search needs
 
 digits-step-requires : tie.Need-digits-step-requires
 unfolding decodeStep Sound
-digits-step-requires c κs = rw (c .before .st2 .given .1) at (c .before .before .before .pre)
+digits-step-requires c κs = rw (c .before .state2 .given .1) at (c .before .before .before .pre)
 
-enum-known-st-3 : tie.Need-enum-known-st-3
-enum-known-st-3 c = search needs
+enum-known-state-3 : tie.Need-enum-known-state-3
+enum-known-state-3 c = search needs
 
 pads-step-requires : tie.Need-pads-step-requires
 pads-step-requires c κs = search needs
@@ -74,7 +75,7 @@ returns-2 c = rw (c .before .enum-told2 .given .1) (c .escape-step .ensures)
 
 returns-3 : tie.Need-returns-3
 unfolding decodeStep Sound
-returns-3 c = rw (c .before .before .st .given .1) (c .hex-step .ensures)
+returns-3 c = rw (c .before .before .state .given .1) (c .hex-step .ensures)
 
 returns-4 : tie.Need-returns-4
 unfolding decodeStep Sound
@@ -86,11 +87,11 @@ returns-5 c = rw (c .before .enum-told4 .given .1) (c .single .ensures)
 
 returns-6 : tie.Need-returns-6
 unfolding decodeStep Sound
-returns-6 c = rw (c .before .before .st2 .given .1) (c .digits-step .ensures)
+returns-6 c = rw (c .before .before .state2 .given .1) (c .digits-step .ensures)
 
 returns-7 : tie.Need-returns-7
 unfolding decodeStep Sound
-returns-7 c = rw (c .before .before .st3 .given .1) (c .pads-step .ensures)
+returns-7 c = rw (c .before .before .state3 .given .1) (c .pads-step .ensures)
 
 returns-8 : tie.Need-returns-8
 unfolding decodeStep Sound
@@ -104,15 +105,15 @@ decode-step-spec =
     plain-step-requires
     enum-told-2
     escape-step-requires
-    enum-known-st
+    enum-known-state
     hex-step-requires
     enum-told-3
     raw-step-requires
     enum-told-4
     single-requires
-    enum-known-st-2
+    enum-known-state-2
     digits-step-requires
-    enum-known-st-3
+    enum-known-state-3
     pads-step-requires
     enum-told-5
     silent-requires

@@ -1,3 +1,4 @@
+use native.Mathlib.Omega.{arith}
 use Rattle.literals.specs.Content.{mayEnd}
 use borrow.Author.Needs.{needs}
 use Rattle.literals.proofs.decoder.may_end.Statement.{statement}
@@ -21,8 +22,8 @@ enum-told-4 c = search needs
 enum-told-5 : tie.Need-enum-told-5
 enum-told-5 c = search needs
 
-enum-known-st : tie.Need-enum-known-st
-enum-known-st c = search needs
+enum-known-state : tie.Need-enum-known-state
+enum-known-state c = search needs
 
 whole-bytes-requires : tie.Need-whole-bytes-requires
 whole-bytes-requires c κs = search needs
@@ -55,7 +56,7 @@ returns-5 c = rw (c .enum-told5 .given .1)
 
 returns-6 : tie.Need-returns-6
 unfolding mayEnd
-returns-6 c = rw (c .before .before .st .given .1) (c .whole-bytes .ensures)
+returns-6 c = rw (c .before .before .state .given .1) (c .whole-bytes .ensures)
 
 returns-7 : tie.Need-returns-7
 unfolding mayEnd
@@ -74,7 +75,7 @@ may-end-spec =
     enum-told-3
     enum-told-4
     enum-told-5
-    enum-known-st
+    enum-known-state
     whole-bytes-requires
     enum-told-6
     enum-told-7

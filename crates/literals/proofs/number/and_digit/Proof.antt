@@ -13,11 +13,11 @@ div-if1 c = omega arith
 returns : tie.Need-returns
 returns c = wide-digit (c .before .args .base) (c .before .args .m) (c .before .args .d) (c .before .pre .0) (c .if1 .taken)
 
-mul-n : tie.Need-mul-n
-mul-n c = let h = close-digit (c .before .args .base) (c .before .args .m) (c .before .pre .0) (c .if1 .left) in omega arith
+mul-longer : tie.Need-mul-longer
+mul-longer c = let h = close-digit (c .before .args .base) (c .before .args .m) (c .before .pre .0) (c .if1 .left) in omega arith
 
-add-n : tie.Need-add-n
-add-n c = let h = close-digit (c .before .args .base) (c .before .args .m) (c .before .pre .0) (c .if1 .left) in omega arith
+add-longer : tie.Need-add-longer
+add-longer c = let h = close-digit (c .before .args .base) (c .before .args .m) (c .before .pre .0) (c .if1 .left) in omega arith
 
 returns-2 : tie.Need-returns-2
 returns-2 c = sym (cap-over _ (omega arith))
@@ -26,4 +26,4 @@ returns-3 : tie.Need-returns-3
 returns-3 c = sym (cap-under _ (omega arith))
 
 pub and-digit-spec : {M : Type 1} → statement M
-and-digit-spec = tie.close (tie.spec div-if1 returns mul-n add-n returns-2 returns-3)
+and-digit-spec = tie.close (tie.spec div-if1 returns mul-longer add-longer returns-2 returns-3)

@@ -24,11 +24,11 @@ returns-2 : tie.Need-returns-2
 unfolding asInteger
 returns-2 c = rw (c .before .before .if1 .taken, c .if3 .taken)
 
-sub-k : tie.Need-sub-k
-sub-k c = omega arith
+sub-less : tie.Need-sub-less
+sub-less c = omega arith
 
-cast-k : tie.Need-cast-k
-cast-k c = omega arith
+cast-less : tie.Need-cast-less
+cast-less c = omega arith
 
 sub-t7 : tie.Need-sub-t7
 sub-t7 c = down-fits (c .before .before .before .args .m - 1) (omega arith)
@@ -51,4 +51,14 @@ returns-5 c = rw (c .before .if1 .left, le-leb (c .before .before .args .m) 9223
 pub as-integer-spec : {M : Type 1} → statement M
 as-integer-spec =
     tie.close
-    (tie.spec add-if2 returns returns-2 sub-k cast-k sub-t7 returns-3 returns-4 cast-t8 returns-5)
+    (tie.spec
+    add-if2
+    returns
+    returns-2
+    sub-less
+    cast-less
+    sub-t7
+    returns-3
+    returns-4
+    cast-t8
+    returns-5)

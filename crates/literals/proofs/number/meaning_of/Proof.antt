@@ -18,14 +18,14 @@ enum-told-2 c = search needs
 enum-told-3 : tie.Need-enum-told-3
 enum-told-3 c = search needs
 
-enum-known-n : tie.Need-enum-known-n
-enum-known-n c = search needs
+enum-known-state : tie.Need-enum-known-state
+enum-known-state c = search needs
 
 as-integer-requires : tie.Need-as-integer-requires
 as-integer-requires c κs = search needs
 
-enum-known-n-2 : tie.Need-enum-known-n-2
-enum-known-n-2 c = search needs
+enum-known-state-2 : tie.Need-enum-known-state-2
+enum-known-state-2 c = search needs
 
 as-integer-requires-2 : tie.Need-as-integer-requires-2
 as-integer-requires-2 c κs = search needs
@@ -39,8 +39,8 @@ enum-told-5 c = search needs
 enum-told-6 : tie.Need-enum-told-6
 enum-told-6 c = search needs
 
-enum-known-n-3 : tie.Need-enum-known-n-3
-enum-known-n-3 c = search needs
+enum-known-state-3 : tie.Need-enum-known-state-3
+enum-known-state-3 c = search needs
 
 as-integer-requires-3 : tie.Need-as-integer-requires-3
 as-integer-requires-3 c κs = search needs
@@ -48,8 +48,8 @@ as-integer-requires-3 c κs = search needs
 enum-told-7 : tie.Need-enum-told-7
 enum-told-7 c = search needs
 
-enum-known-n-4 : tie.Need-enum-known-n-4
-enum-known-n-4 c = search needs
+enum-known-state-4 : tie.Need-enum-known-state-4
+enum-known-state-4 c = search needs
 
 as-decimal-requires : tie.Need-as-decimal-requires
 as-decimal-requires c κs = search needs
@@ -63,8 +63,8 @@ enum-told-9 c = search needs
 enum-told-10 : tie.Need-enum-told-10
 enum-told-10 c = search needs
 
-enum-known-n-5 : tie.Need-enum-known-n-5
-enum-known-n-5 c = search needs
+enum-known-state-5 : tie.Need-enum-known-state-5
+enum-known-state-5 c = search needs
 
 with-exponent-requires : tie.Need-with-exponent-requires
 with-exponent-requires c κs = search needs
@@ -86,11 +86,11 @@ returns-3 c = rw (c .enum-told3 .given .1)
 
 returns-4 : tie.Need-returns-4
 unfolding meaning
-returns-4 c = rw (c .before .before .n .given .1) (c .as-integer .ensures)
+returns-4 c = rw (c .before .before .state .given .1) (c .as-integer .ensures)
 
 returns-5 : tie.Need-returns-5
 unfolding meaning
-returns-5 c = rw (c .before .before .n2 .given .1) (c .as-integer2 .ensures)
+returns-5 c = rw (c .before .before .state2 .given .1) (c .as-integer2 .ensures)
 
 returns-6 : tie.Need-returns-6
 unfolding meaning
@@ -106,7 +106,7 @@ returns-8 c = rw (c .enum-told6 .given .1)
 
 returns-9 : tie.Need-returns-9
 unfolding meaning
-returns-9 c = rw (c .before .before .n3 .given .1) (c .as-integer3 .ensures)
+returns-9 c = rw (c .before .before .state3 .given .1) (c .as-integer3 .ensures)
 
 returns-10 : tie.Need-returns-10
 unfolding meaning
@@ -114,7 +114,7 @@ returns-10 c = rw (c .enum-told7 .given .1)
 
 returns-11 : tie.Need-returns-11
 unfolding meaning
-returns-11 c = rw (c .before .before .n4 .given .1) (c .as-decimal .ensures)
+returns-11 c = rw (c .before .before .state4 .given .1) (c .as-decimal .ensures)
 
 returns-12 : tie.Need-returns-12
 unfolding meaning
@@ -130,7 +130,7 @@ returns-14 c = rw (c .enum-told10 .given .1)
 
 returns-15 : tie.Need-returns-15
 unfolding meaning
-returns-15 c = rw (c .before .before .n5 .given .1) (c .with-exponent .ensures)
+returns-15 c = rw (c .before .before .state5 .given .1) (c .with-exponent .ensures)
 
 returns-16 : tie.Need-returns-16
 unfolding meaning
@@ -143,22 +143,22 @@ meaning-of-spec =
     enum-told
     enum-told-2
     enum-told-3
-    enum-known-n
+    enum-known-state
     as-integer-requires
-    enum-known-n-2
+    enum-known-state-2
     as-integer-requires-2
     enum-told-4
     enum-told-5
     enum-told-6
-    enum-known-n-3
+    enum-known-state-3
     as-integer-requires-3
     enum-told-7
-    enum-known-n-4
+    enum-known-state-4
     as-decimal-requires
     enum-told-8
     enum-told-9
     enum-told-10
-    enum-known-n-5
+    enum-known-state-5
     with-exponent-requires
     enum-told-11
     returns

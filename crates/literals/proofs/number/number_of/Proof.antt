@@ -17,10 +17,10 @@ use Rattle.literals.proofs.number.meaning_of.Reads as meaning-of-reads
 use Rattle.literals.proofs.number.number_step.Reads as number-step-reads
 
 abbrev Inv-loop : tie.InvT-loop
-Inv-loop token n₀ i₀ n i = (i ≤ length token) × (placesOf n ≤ i) × (capped (feed numberStep Start token) ≡ capped (feed numberStep n (drop i token)))
+Inv-loop token state₀ i₀ state i = (i ≤ length token) × (placesOf state ≤ i) × (capped (feed numberStep Start token) ≡ capped (feed numberStep state (drop i token)))
 
 abbrev μ-loop : tie.MeasureT-loop
-μ-loop token n₀ i₀ n i = length token - i
+μ-loop token state₀ i₀ state i = length token - i
 
 loop-holds : tie.Need-loop-holds Inv-loop μ-loop
 unfolding placesOf
@@ -39,14 +39,14 @@ loop-less : tie.Need-loop-less Inv-loop μ-loop
 loop-less c = omega arith
 
 loop-again : tie.Need-loop-again Inv-loop μ-loop
-loop-again c = (omega arith, few-turn (c .before .before .before .loop .n) (c .number-step .result) (getD (c .before .before .before .before .before .args .token .now) (c .before .before .before .loop .i) 0) (c .before .before .before .loop .i) (c .number-step .ensures) (c .before .before .before .loop .inv .1), c .before .before .before .loop .inv .2 ∙ same-turn (c .before .before .before .loop .n) (c .number-step .result) (c .before .before .before .before .before .args .token .now) (c .before .before .before .loop .i) (omega arith) (c .number-step .ensures))
+loop-again c = (omega arith, few-turn (c .before .before .before .loop .state) (c .number-step .result) (getD (c .before .before .before .before .before .args .token .now) (c .before .before .before .loop .i) 0) (c .before .before .before .loop .i) (c .number-step .ensures) (c .before .before .before .loop .inv .1), c .before .before .before .loop .inv .2 ∙ same-turn (c .before .before .before .loop .state) (c .number-step .result) (c .before .before .before .before .before .args .token .now) (c .before .before .before .loop .i) (omega arith) (c .number-step .ensures))
 
 meaning-of-requires : tie.Need-meaning-of-requires Inv-loop μ-loop
 meaning-of-requires c κs = search needs
 
 returns : tie.Need-returns Inv-loop μ-loop
 unfolding number
-returns c = c .meaning-of .ensures ∙ sym (same-meaning (feed numberStep Start (c .before .before .before .before .args .token .now)) (c .before .before .loop .n) (c .before .before .loop .inv .2 ∙ ap capped (feed-done numberStep (c .before .before .loop .n) (c .before .before .before .before .args .token .now) (c .before .before .loop .i) (omega arith))) (omega arith))
+returns c = c .meaning-of .ensures ∙ sym (same-meaning (feed numberStep Start (c .before .before .before .before .args .token .now)) (c .before .before .loop .state) (c .before .before .loop .inv .2 ∙ ap capped (feed-done numberStep (c .before .before .loop .state) (c .before .before .before .before .args .token .now) (c .before .before .loop .i) (omega arith))) (omega arith))
 
 pub number-of-spec : {M : Type 1} → statement M
 number-of-spec =

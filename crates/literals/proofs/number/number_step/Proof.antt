@@ -31,88 +31,88 @@ start-step-requires c κs = search needs
 enum-told-2 : tie.Need-enum-told-2
 enum-told-2 c = search needs
 
-enum-known-n : tie.Need-enum-known-n
-enum-known-n c = search needs
+enum-known-state : tie.Need-enum-known-state
+enum-known-state c = search needs
 
 sign-step-requires : tie.Need-sign-step-requires
 sign-step-requires c κs = search needs
 
-enum-known-n-2 : tie.Need-enum-known-n-2
-enum-known-n-2 c = search needs
+enum-known-state-2 : tie.Need-enum-known-state-2
+enum-known-state-2 c = search needs
 
 zero-step-requires : tie.Need-zero-step-requires
 zero-step-requires c κs = search needs
 
-enum-known-n-3 : tie.Need-enum-known-n-3
-enum-known-n-3 c = search needs
+enum-known-state-3 : tie.Need-enum-known-state-3
+enum-known-state-3 c = search needs
 
 digit-step-requires : tie.Need-digit-step-requires
 digit-step-requires c κs = search needs
 
-enum-known-n-4 : tie.Need-enum-known-n-4
-enum-known-n-4 c = search needs
+enum-known-state-4 : tie.Need-enum-known-state-4
+enum-known-state-4 c = search needs
 
 gap-step-requires : tie.Need-gap-step-requires
 gap-step-requires c κs = search needs
 
-enum-known-n-5 : tie.Need-enum-known-n-5
-enum-known-n-5 c = search needs
+enum-known-state-5 : tie.Need-enum-known-state-5
+enum-known-state-5 c = search needs
 
 dot-step-requires : tie.Need-dot-step-requires
 dot-step-requires c κs = search needs
 
-enum-known-n-6 : tie.Need-enum-known-n-6
-enum-known-n-6 c = search needs
+enum-known-state-6 : tie.Need-enum-known-state-6
+enum-known-state-6 c = search needs
 
 prefix-step-requires : tie.Need-prefix-step-requires
 prefix-step-requires c κs = search needs
 
-enum-known-n-7 : tie.Need-enum-known-n-7
-enum-known-n-7 c = search needs
+enum-known-state-7 : tie.Need-enum-known-state-7
+enum-known-state-7 c = search needs
 
 based-step-requires : tie.Need-based-step-requires
 based-step-requires c κs = search needs
 
-enum-known-n-8 : tie.Need-enum-known-n-8
-enum-known-n-8 c = search needs
+enum-known-state-8 : tie.Need-enum-known-state-8
+enum-known-state-8 c = search needs
 
 based-gap-step-requires : tie.Need-based-gap-step-requires
 based-gap-step-requires c κs = search needs
 
-enum-known-n-9 : tie.Need-enum-known-n-9
-enum-known-n-9 c = search needs
+enum-known-state-9 : tie.Need-enum-known-state-9
+enum-known-state-9 c = search needs
 
 fraction-step-requires : tie.Need-fraction-step-requires
 unfolding placesOf
-fraction-step-requires c κs = rw (c .before .n9 .given .1) at (c .before .before .before .pre)
+fraction-step-requires c κs = rw (c .before .state9 .given .1) at (c .before .before .before .pre)
 
-enum-known-n-10 : tie.Need-enum-known-n-10
-enum-known-n-10 c = search needs
+enum-known-state-10 : tie.Need-enum-known-state-10
+enum-known-state-10 c = search needs
 
 fraction-gap-step-requires : tie.Need-fraction-gap-step-requires
 unfolding placesOf
-fraction-gap-step-requires c κs = rw (c .before .n10 .given .1) at (c .before .before .before .pre)
+fraction-gap-step-requires c κs = rw (c .before .state10 .given .1) at (c .before .before .before .pre)
 
-enum-known-n-11 : tie.Need-enum-known-n-11
-enum-known-n-11 c = search needs
+enum-known-state-11 : tie.Need-enum-known-state-11
+enum-known-state-11 c = search needs
 
 mark-step-requires : tie.Need-mark-step-requires
 mark-step-requires c κs = search needs
 
-enum-known-n-12 : tie.Need-enum-known-n-12
-enum-known-n-12 c = search needs
+enum-known-state-12 : tie.Need-enum-known-state-12
+enum-known-state-12 c = search needs
 
 exp-sign-step-requires : tie.Need-exp-sign-step-requires
 exp-sign-step-requires c κs = search needs
 
-enum-known-n-13 : tie.Need-enum-known-n-13
-enum-known-n-13 c = search needs
+enum-known-state-13 : tie.Need-enum-known-state-13
+enum-known-state-13 c = search needs
 
 exp-digit-step-requires : tie.Need-exp-digit-step-requires
 exp-digit-step-requires c κs = search needs
 
-enum-known-n-14 : tie.Need-enum-known-n-14
-enum-known-n-14 c = search needs
+enum-known-state-14 : tie.Need-enum-known-state-14
+enum-known-state-14 c = search needs
 
 exp-gap-step-requires : tie.Need-exp-gap-step-requires
 exp-gap-step-requires c κs = search needs
@@ -125,46 +125,46 @@ unfolding numberStep
 returns-2 c = rw (c .enum-told2 .given .1)
 
 returns-3 : tie.Need-returns-3
-returns-3 c = rw (c .before .before .n .given .1) (c .sign-step .ensures)
+returns-3 c = rw (c .before .before .state .given .1) (c .sign-step .ensures)
 
 returns-4 : tie.Need-returns-4
-returns-4 c = rw (c .before .before .n2 .given .1) (c .zero-step .ensures)
+returns-4 c = rw (c .before .before .state2 .given .1) (c .zero-step .ensures)
 
 returns-5 : tie.Need-returns-5
-returns-5 c = rw (c .before .before .n3 .given .1) (c .digit-step .ensures)
+returns-5 c = rw (c .before .before .state3 .given .1) (c .digit-step .ensures)
 
 returns-6 : tie.Need-returns-6
-returns-6 c = rw (c .before .before .n4 .given .1) (c .gap-step .ensures)
+returns-6 c = rw (c .before .before .state4 .given .1) (c .gap-step .ensures)
 
 returns-7 : tie.Need-returns-7
-returns-7 c = rw (c .before .before .n5 .given .1) (c .dot-step .ensures)
+returns-7 c = rw (c .before .before .state5 .given .1) (c .dot-step .ensures)
 
 returns-8 : tie.Need-returns-8
-returns-8 c = rw (c .before .before .n6 .given .1) (c .prefix-step .ensures)
+returns-8 c = rw (c .before .before .state6 .given .1) (c .prefix-step .ensures)
 
 returns-9 : tie.Need-returns-9
-returns-9 c = rw (c .before .before .n7 .given .1) (c .based-step .ensures)
+returns-9 c = rw (c .before .before .state7 .given .1) (c .based-step .ensures)
 
 returns-10 : tie.Need-returns-10
-returns-10 c = rw (c .before .before .n8 .given .1) (c .based-gap-step .ensures)
+returns-10 c = rw (c .before .before .state8 .given .1) (c .based-gap-step .ensures)
 
 returns-11 : tie.Need-returns-11
-returns-11 c = rw (c .before .before .n9 .given .1) (c .fraction-step .ensures)
+returns-11 c = rw (c .before .before .state9 .given .1) (c .fraction-step .ensures)
 
 returns-12 : tie.Need-returns-12
-returns-12 c = rw (c .before .before .n10 .given .1) (c .fraction-gap-step .ensures)
+returns-12 c = rw (c .before .before .state10 .given .1) (c .fraction-gap-step .ensures)
 
 returns-13 : tie.Need-returns-13
-returns-13 c = rw (c .before .before .n11 .given .1) (c .mark-step .ensures)
+returns-13 c = rw (c .before .before .state11 .given .1) (c .mark-step .ensures)
 
 returns-14 : tie.Need-returns-14
-returns-14 c = rw (c .before .before .n12 .given .1) (c .exp-sign-step .ensures)
+returns-14 c = rw (c .before .before .state12 .given .1) (c .exp-sign-step .ensures)
 
 returns-15 : tie.Need-returns-15
-returns-15 c = rw (c .before .before .n13 .given .1) (c .exp-digit-step .ensures)
+returns-15 c = rw (c .before .before .state13 .given .1) (c .exp-digit-step .ensures)
 
 returns-16 : tie.Need-returns-16
-returns-16 c = rw (c .before .before .n14 .given .1) (c .exp-gap-step .ensures)
+returns-16 c = rw (c .before .before .state14 .given .1) (c .exp-gap-step .ensures)
 
 pub number-step-spec : {M : Type 1} → statement M
 number-step-spec =
@@ -173,33 +173,33 @@ number-step-spec =
     enum-told
     start-step-requires
     enum-told-2
-    enum-known-n
+    enum-known-state
     sign-step-requires
-    enum-known-n-2
+    enum-known-state-2
     zero-step-requires
-    enum-known-n-3
+    enum-known-state-3
     digit-step-requires
-    enum-known-n-4
+    enum-known-state-4
     gap-step-requires
-    enum-known-n-5
+    enum-known-state-5
     dot-step-requires
-    enum-known-n-6
+    enum-known-state-6
     prefix-step-requires
-    enum-known-n-7
+    enum-known-state-7
     based-step-requires
-    enum-known-n-8
+    enum-known-state-8
     based-gap-step-requires
-    enum-known-n-9
+    enum-known-state-9
     fraction-step-requires
-    enum-known-n-10
+    enum-known-state-10
     fraction-gap-step-requires
-    enum-known-n-11
+    enum-known-state-11
     mark-step-requires
-    enum-known-n-12
+    enum-known-state-12
     exp-sign-step-requires
-    enum-known-n-13
+    enum-known-state-13
     exp-digit-step-requires
-    enum-known-n-14
+    enum-known-state-14
     exp-gap-step-requires
     returns
     returns-2

@@ -15,10 +15,10 @@ use Rattle.literals.proofs.word.is_good.Reads as is-good-reads
 use Rattle.literals.proofs.word.shape_step.Reads as shape-step-reads
 
 abbrev Inv-loop : tie.InvT-loop
-Inv-loop s st₀ i₀ st i = (i ≤ length s) × (feed shapeStep Start s ≡ feed shapeStep st (drop i s))
+Inv-loop s state₀ i₀ state i = (i ≤ length s) × (feed shapeStep Start s ≡ feed shapeStep state (drop i s))
 
 abbrev μ-loop : tie.MeasureT-loop
-μ-loop s st₀ i₀ st i = length s - i
+μ-loop s state₀ i₀ state i = length s - i
 
 loop-holds : tie.Need-loop-holds Inv-loop μ-loop
 loop-holds c = (omega arith, refl)
@@ -36,14 +36,14 @@ loop-less : tie.Need-loop-less Inv-loop μ-loop
 loop-less c = omega arith
 
 loop-again : tie.Need-loop-again Inv-loop μ-loop
-loop-again c = (omega arith, c .before .before .before .loop .inv .1 ∙ feed-turn shapeStep (c .before .before .before .loop .st) _ (c .before .before .before .before .before .args .s .now) (c .before .before .before .loop .i) (omega arith) (c .shape-step .ensures))
+loop-again c = (omega arith, c .before .before .before .loop .inv .1 ∙ feed-turn shapeStep (c .before .before .before .loop .state) _ (c .before .before .before .before .before .args .s .now) (c .before .before .before .loop .i) (omega arith) (c .shape-step .ensures))
 
 is-good-requires : tie.Need-is-good-requires Inv-loop μ-loop
 is-good-requires c κs = search needs
 
 returns : tie.Need-returns Inv-loop μ-loop
 unfolding hasShape
-returns c = c .is-good .ensures ∙ ap isGood (sym (c .before .before .loop .inv .1 ∙ feed-done shapeStep (c .before .before .loop .st) (c .before .before .before .before .args .s .now) (c .before .before .loop .i) (omega arith)))
+returns c = c .is-good .ensures ∙ ap isGood (sym (c .before .before .loop .inv .1 ∙ feed-done shapeStep (c .before .before .loop .state) (c .before .before .before .before .args .s .now) (c .before .before .loop .i) (omega arith)))
 
 pub has-shape-spec : {M : Type 1} → statement M
 has-shape-spec =

@@ -1,12 +1,12 @@
 use native.Mathlib.Omega.{arith}
 use lib.ListN.{length-set}
 use native.Mathlib.Numerals.{towards-suc}
 use Rattle.text.specs.Utf8.{listed}
 use borrow.Author.Needs.{needs}
-use Rattle.literals.proofs.few.put_few.Statement.{statement}
-use Rattle.literals.proofs.few.put_few.Tie as tie
-use Rattle.literals.proofs.few.put_few.Reads as reads
-use Rattle.literals.proofs.few.put_few.Lts as lts
+use Rattle.text.proofs.few.put_few.Statement.{statement}
+use Rattle.text.proofs.few.put_few.Tie as tie
+use Rattle.text.proofs.few.put_few.Reads as reads
+use Rattle.text.proofs.few.put_few.Lts as lts
 
 enum-told : tie.Need-enum-told
 enum-told c = search needs

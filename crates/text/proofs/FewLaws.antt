@@ -6,15 +6,15 @@ use native.Mathlib.Omega.{arith}
 use mathlib.Core.List.{List, [], _∷_}
 use lib.Dec.{leb, ltb}
 use lib.ListN.{length}
 use Rattle.text.specs.Bytes.{feed}
 use Rattle.text.specs.declared.utf8.Utf8.{Utf8}
 use Rattle.text.specs.declared.utf8.Utf8.the-variants.{Whole, Part, Broken}
-use Rattle.text.specs.declared.utf8.Few.{Few}
-use Rattle.text.specs.declared.utf8.Few.the-variants.{Zero, One, Two, Three, Four}
+use Rattle.text.specs.declared.few.Few.{Few}
+use Rattle.text.specs.declared.few.Few.the-variants.{Zero, One, Two, Three, Four}
 use Rattle.text.specs.Utf8.{lead, later, utf8Step, listed}
 use Rattle.text.specs.Internal.{bytesRead}
 use Rattle.text.proofs.Choice.{cond-both}
 use Rattle.text.proofs.Utf8Laws.{lead-case}
 
 pub few-short : (f : Few) → length (listed f) ≤ 4
 unfolding listed

@@ -1,9 +1,10 @@
+use native.Mathlib.Omega.{arith}
 use Rattle.text.specs.Utf8.{listed}
 use borrow.Author.Needs.{needs}
-use Rattle.literals.proofs.few.few_len.Statement.{statement}
-use Rattle.literals.proofs.few.few_len.Tie as tie
-use Rattle.literals.proofs.few.few_len.Reads as reads
-use Rattle.literals.proofs.few.few_len.Lts as lts
+use Rattle.text.proofs.few.few_len.Statement.{statement}
+use Rattle.text.proofs.few.few_len.Tie as tie
+use Rattle.text.proofs.few.few_len.Reads as reads
+use Rattle.text.proofs.few.few_len.Lts as lts
 
 enum-told : tie.Need-enum-told
 enum-told c = search needs

@@ -1,9 +1,10 @@
+use native.Mathlib.Omega.{arith}
 use borrow.Author.Needs.{needs}
-use Rattle.literals.proofs.few.feed_text.Statement.{statement}
-use Rattle.literals.proofs.few.feed_text.Tie as tie
-use Rattle.literals.proofs.few.feed_text.Reads as reads
-use Rattle.literals.proofs.few.feed_text.Lts as lts
-use Rattle.literals.proofs.few.feed_few.Reads as feed-few-reads
+use Rattle.text.proofs.few.feed_text.Statement.{statement}
+use Rattle.text.proofs.few.feed_text.Tie as tie
+use Rattle.text.proofs.few.feed_text.Reads as reads
+use Rattle.text.proofs.few.feed_text.Lts as lts
+use Rattle.text.proofs.few.feed_few.Reads as feed-few-reads
 
 feed-few-requires : tie.Need-feed-few-requires
 feed-few-requires c κs = search needs

@@ -1,9 +1,10 @@
+use native.Mathlib.Omega.{arith}
 use Rattle.text.specs.Utf8.{isWhole}
 use borrow.Author.Needs.{needs}
-use Rattle.literals.proofs.few.is_whole.Statement.{statement}
-use Rattle.literals.proofs.few.is_whole.Tie as tie
-use Rattle.literals.proofs.few.is_whole.Reads as reads
-use Rattle.literals.proofs.few.is_whole.Lts as lts
+use Rattle.text.proofs.utf8.is_whole.Statement.{statement}
+use Rattle.text.proofs.utf8.is_whole.Tie as tie
+use Rattle.text.proofs.utf8.is_whole.Reads as reads
+use Rattle.text.proofs.utf8.is_whole.Lts as lts
 
 enum-told : tie.Need-enum-told
 enum-told c = search needs

@@ -1,15 +1,23 @@
-// The bytes that a step of the decoder gives, up to four: counted, fed to the UTF-8 machine, put into an output.
+// Up to four bytes by value: counted, fed to the UTF-8 machine, put into an output.
 ghost use mathlib.Core.Path.{_≡_};
 ghost use mathlib.Core.Bool.{cond};
 ghost use Prim.Native.Nat.{_≤_, _<_, _+_};
 ghost use lib.ListN.{length};
 ghost use lib.Seq.{sets};
 ghost use Rattle.text.specs.Bytes.{feed};
-ghost use Rattle.text.specs.Utf8.{utf8Step, isWhole, listed};
+ghost use Rattle.text.specs.Utf8.{utf8Step, listed};
 ghost use Rattle.text.specs.Internal.{bytesRead};
-use text::utf8::Few;
-use text::utf8::Utf8;
-use text::utf8::utf8_step;
+use crate::utf8::Utf8;
+use crate::utf8::utf8_step;
+
+// Up to four bytes: those of a character, or those that a step of a decoder gives.
+pub enum Few {
+    Zero,
+    One(u8),
+    Two(u8, u8),
+    Three(u8, u8, u8),
+    Four(u8, u8, u8, u8),
+}
 
 // How many bytes these are.
 pub fn few_len(f: Few) -> usize
@@ -33,19 +41,19 @@ fn feed_few(u: Utf8, f: Few) -> Utf8
         Few::Zero => u,
         Few::One(a) => utf8_step(u, a),
         Few::Two(a, b) => {
-            let v = utf8_step(u, a);
-            utf8_step(v, b)
+            let one = utf8_step(u, a);
+            utf8_step(one, b)
         }
         Few::Three(a, b, d) => {
-            let v = utf8_step(u, a);
-            let w = utf8_step(v, b);
-            utf8_step(w, d)
+            let one = utf8_step(u, a);
+            let two = utf8_step(one, b);
+            utf8_step(two, d)
         }
         Few::Four(a, b, d, e) => {
-            let v = utf8_step(u, a);
-            let w = utf8_step(v, b);
-            let x = utf8_step(w, d);
-            utf8_step(x, e)
+            let one = utf8_step(u, a);
+            let two = utf8_step(one, b);
+            let three = utf8_step(two, d);
+            utf8_step(three, e)
         }
     }
 }
@@ -59,23 +67,6 @@ pub fn feed_text(text: bool, u: Utf8, f: Few) -> Utf8
         return feed_few(u, f);
     }
     u
-}
-
-// Whether the machine stands between characters.
-pub fn is_whole(u: Utf8) -> bool
-    ensures { λ r. ⌜ r ≡ isWhole u ⌝ }
-{
-    match u {
-        Utf8::Whole(_) => true,
-        Utf8::Part {
-            n: _,
-            read: _,
-            more: _,
-            low: _,
-            high: _,
-        } => false,
-        Utf8::Broken(_) => false,
-    }
 }
 
 // Puts the bytes into the output from k on.

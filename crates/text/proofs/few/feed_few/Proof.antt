@@ -1,13 +1,13 @@
 use native.Mathlib.Omega.{arith}
 use Rattle.text.specs.Bytes.{feed}
 use Rattle.text.specs.Utf8.{listed}
-use Rattle.literals.proofs.FewLaws.{read-next}
+use Rattle.text.proofs.FewLaws.{read-next}
 use borrow.Author.Needs.{needs}
-use Rattle.literals.proofs.few.feed_few.Statement.{statement}
-use Rattle.literals.proofs.few.feed_few.Tie as tie
-use Rattle.literals.proofs.few.feed_few.Reads as reads
-use Rattle.literals.proofs.few.feed_few.Lts as lts
+use Rattle.text.proofs.few.feed_few.Statement.{statement}
+use Rattle.text.proofs.few.feed_few.Tie as tie
+use Rattle.text.proofs.few.feed_few.Reads as reads
+use Rattle.text.proofs.few.feed_few.Lts as lts
 use Rattle.text.proofs.utf8.utf8_step.Reads as utf8-step-reads
 
 enum-told : tie.Need-enum-told
 enum-told c = search needs

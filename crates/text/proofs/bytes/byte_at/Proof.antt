@@ -1,11 +1,11 @@
 use native.Mathlib.Omega.{arith}
 use mathlib.Core.Path.{sym}
-use Rattle.lexer.proofs.PlaceLaws.{past}
+use Rattle.text.proofs.ListLaws.{getD-past}
 use borrow.Author.Needs.{needs}
-use Rattle.lexer.proofs.item.byte_at.Statement.{statement}
-use Rattle.lexer.proofs.item.byte_at.Tie as tie
-use Rattle.lexer.proofs.item.byte_at.Reads as reads
-use Rattle.lexer.proofs.item.byte_at.Lts as lts
+use Rattle.text.proofs.bytes.byte_at.Statement.{statement}
+use Rattle.text.proofs.bytes.byte_at.Tie as tie
+use Rattle.text.proofs.bytes.byte_at.Reads as reads
+use Rattle.text.proofs.bytes.byte_at.Lts as lts
 
 shared-slice-read-result : tie.Need-shared-slice-read-result
 shared-slice-read-result c = search needs
@@ -14,7 +14,7 @@ returns : tie.Need-returns
 returns c = omega arith
 
 returns-2 : tie.Need-returns-2
-returns-2 c = sym (past (c .before .args .text .now) (c .before .args .i) (c .if1 .left))
+returns-2 c = sym (getD-past (c .before .args .s .now) (c .before .args .i) (c .if1 .left))
 
 pub byte-at-spec : {M : Type 1} → statement M
 byte-at-spec = tie.close (tie.spec shared-slice-read-result returns returns-2)
