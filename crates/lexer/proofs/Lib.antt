@@ -3,6 +3,7 @@ pub mod ClosingLaws
 pub mod RunLaws
 pub mod ItemCases
 pub mod TokenLaws
+pub mod OpeningLaws
 pub mod PlaceLaws
 pub mod NextLaws
 pub mod Seams

@@ -1,5 +1,4 @@
--- A string or key by itself: where its content stands, by its first bytes, and what the item at its start says of it.
--- Each law is what one way out of a function of src/token.rt has to show.
+-- A string or key by itself: where its content stands, and what the item at its start says of it.
 -- Assumes nothing.
 use mathlib.Core.Path.{_≡_, refl, sym, ap, _∙_, subst}
 use Prim.Native.Nat.{ℕ, suc, _+_, _-_, _≤_, _<_}
@@ -12,15 +11,13 @@ use lib.ListN.{length, take, drop, getD, length-drop}
 use lib.Seq.{take-all}
 use borrow.Author.Tests.{eq-eqb, ne-eqb, lt-ltb}
 use Rattle.text.specs.declared.switches.Switches.{Switches}
-use Rattle.text.specs.Bytes.{front, begins, is, Class, classOf, classNumber, isWordByte, isNumberByte}
+use Rattle.text.specs.Bytes.{front, is, Class, classOf, classNumber, oneOf, isWordByte, isNumberByte}
 use Rattle.text.specs.Utf8.{isUtf8}
-use Rattle.text.proofs.ClassLaws.{classAt, class-by, quote-number}
 use Rattle.literals.specs.declared.decoder.Body.{Body}
 use Rattle.literals.specs.declared.decoder.Body.the-variants as Y
 use Rattle.literals.specs.declared.decoder.Decoder.the-variants as D
 use Rattle.literals.specs.declared.content.Written.the-variants as W
 use Rattle.literals.specs.Content.{decoded, startOf, content, onlyUtf8, contentOf, fitted, placed, sameContent}
-use Rattle.literals.specs.InternalContent.{Apart}
 use Rattle.literals.proofs.PairLaws.{letters-own}
 use Rattle.literals.specs.declared.number.Meaning.{Meaning}
 use Rattle.literals.specs.declared.number.Meaning.the-variants as N
@@ -33,14 +30,32 @@ use Rattle.lexer.specs.declared.closing.Block.the-variants as B
 use Rattle.lexer.specs.declared.item.TokenKind.{TokenKind}
 use Rattle.lexer.specs.declared.item.Found.{Found}
 use Rattle.lexer.specs.declared.item.Found.the-variants as F
+use Rattle.lexer.specs.declared.opening.StringHead.{StringHead}
+use Rattle.lexer.specs.declared.opening.Opening.{Opening}
+use Rattle.lexer.specs.declared.opening.Opening.the-variants as O
 use Rattle.lexer.specs.declared.token.Part.{Part}
 use Rattle.lexer.specs.Closing.{closing, block, notNewline}
-use Rattle.lexer.specs.Token.{Form, mark, word, text, bytes, integer, decimal, Item, gap, token, fault, blockItem, comment, contentItem, closedItem, hasEscapes, stringItem, stringForm, rawItem, wordItem, meantItem, numberItem, smallItem, itemOf, item, itemAt, keyContent, wholeItem, tokenContent}
+use Rattle.lexer.specs.Token.{Form, mark, word, text, bytes, integer, decimal, Item, gap, token, fault, blockItem, comment, contentItem, closedItem, hasEscapes, stringItem, stringForm, wordItem, meantItem, numberItem, itemOf, item, itemAt, keyContent, wholeItem, tokenContent}
+use Rattle.lexer.specs.Opening.{openingOf, openedItem, wordPart, openedPart, partOf}
 use Rattle.lexer.specs.Answer.{kindOf, found, foundAt}
-use Rattle.lexer.specs.Internal.{isKeyKind, hasContent, Keyed, KeyedAs, PartIs, OtherIf}
+use Rattle.lexer.specs.Internal.{isKeyKind, hasContent, Keyed}
 use Rattle.lexer.proofs.ClosingLaws.{closed-within}
-use Rattle.lexer.proofs.PlaceLaws.{there, small-b, small-r, small-other, raw-opens, raw-fails}
+use Rattle.lexer.proofs.OpeningLaws.{head-within, mayOpen, opening-item, opening-none}
 use Rattle.lexer.proofs.NextLaws.{found-token, item-there}
+
+-- ---- what the laws say
+
+-- the bytes s are one string or key, and i is the item that they are
+record KeyedAs (sw : Switches) (s : List ℕ) (i : Item) : Type 0 where
+  pub content : List ℕ
+  pub is : tokenContent sw s ≡ some content
+  pub whole : wholeItem (length s - 1) i ≡ some content
+
+-- the content of a string or key is that of a part of it
+pub record PartIs (sw : Switches) (s : List ℕ) (p : Part) : Type 0 where
+  pub forward : p .span .start ≤ p .span .stop
+  pub inside : p .span .stop ≤ length s
+  pub holds : contentOf sw (p .«is_text») (p .body) (take (p .span .stop - p .span .start) (drop (p .span .start) s)) ≡ tokenContent sw s
 
 -- ---- contents that are there
 
@@ -94,56 +109,24 @@ module _ (sw : Switches) (isText : Bool) (body : Body) (head k m : ℕ) (l c : L
   unfolding stringItem
   string-whole e = closed-whole (closing (hasEscapes body) k l) refl e
 
-module _ (sw : Switches) (s : List ℕ) (isText : Bool) (body : Body) (head k : ℕ) (h : head < length s) where
-  pub string-room : KeyedAs sw s (stringItem sw isText body head k (drop (head + 1) s)) → head + k + 2 ≤ length s
-  string-room y =
-      let d = length-drop (head + 1) s in
-      let w = string-whole sw isText body head k (length s - 1) (drop (head + 1) s) (y .content) (omega arith) (y .whole) in
-      omega arith
-
-  pub string-part : (to : ℕ) → to ≡ length s - 1 - k → KeyedAs sw s (stringItem sw isText body head k (drop (head + 1) s))
-      → PartIs sw s (record { istext = isText; body = body; from = head + 1; to = to })
-  string-part to to-is y =
-      let d = length-drop (head + 1) s in
-      let w = string-whole sw isText body head k (length s - 1) (drop (head + 1) s) (y .content) (omega arith) (y .whole) in
-      let j : to - (head + 1) ≡ length (drop (head + 1) s) - suc k = omega arith in
+module _ (sw : Switches) (s : List ℕ) (h : StringHead) (some-before : 0 < h .before) (within : h .before ≤ length s) where
+  -- such a string's part
+  string-part : KeyedAs sw s (stringItem sw (h .«is_text») (h .body) (h .before - 1) (h .hashes) (drop (h .before) s))
+      → PartIs sw s (openedPart (length s) (O.String h))
+  unfolding openedPart
+  string-part y =
+      let d = length-drop (h .before) s in
+      let w = string-whole sw (h .«is_text») (h .body) (h .before - 1) (h .hashes) (length s - 1) (drop (h .before) s) (y .content) (omega arith) (y .whole) in
+      let j : length s - 1 - h .hashes - h .before ≡ length (drop (h .before) s) - suc (h .hashes) = omega arith in
       record {
         forward = omega arith;
         inside = omega arith;
-        holds = ap (λ (n : ℕ). contentOf sw isText body (take n (drop (head + 1) s))) j ∙ w .1 ∙ sym (y .is);
+        holds = ap (λ (n : ℕ). contentOf sw (h .«is_text») (h .body) (take n (drop (h .before) s))) j ∙ w .1 ∙ sym (y .is);
       }
-
--- ---- raw strings: hashes from `from` to before q, where the quote stands
-
-module _ (sw : Switches) (s : List ℕ) (isText : Bool) (head q : ℕ) (h : head < length s) (q-is : q ≡ head + 1 + front (is "#") (drop (head + 1) s)) (y : KeyedAs sw s (rawItem sw isText head (drop (head + 1) s))) where
-  quote-or : (t : Bool) → eqb (getD s q 0) 34 ≡ t → getD s q 0 ≡ 34
-  unfolding wholeItem
-  quote-or true e = same-by (getD s q 0) 34 e
-  quote-or false e =
-      let n : getD s q 0 ≡ 34 → ⊥ = λ z. false≢true (sym e ∙ eq-eqb (getD s q 0) 34 z) in
-      let k : q - (head + 1) ≡ front (is "#") (drop (head + 1) s) = omega arith in
-      let j : q ≡ head + 1 + (q - (head + 1)) = omega arith in
-      absurd (no-content (y .content) (ap (wholeItem (length s - 1)) (sym (raw-fails sw isText head s (head + 1) (q - (head + 1)) q k j n)) ∙ y .whole))
-
-  pub raw-quoted : getD s q 0 ≡ 34
-  raw-quoted = quote-or (eqb (getD s q 0) 34) refl
-
-  pub raw-part : (head + (q - (head + 1)) + 1 < length s)
-      × KeyedAs sw s (stringItem sw isText Y.Raw (head + (q - (head + 1)) + 1) (q - (head + 1)) (drop (head + (q - (head + 1)) + 1 + 1) s))
-  raw-part =
-      let t = there s q 34 raw-quoted (omega arith) in
-      let k : q - (head + 1) ≡ front (is "#") (drop (head + 1) s) = omega arith in
-      let j : q ≡ head + 1 + (q - (head + 1)) = omega arith in
-      let i : head + 1 + (q - (head + 1) + 1) ≡ head + (q - (head + 1)) + 1 + 1 = omega arith in
-      let e = raw-opens sw isText head s (head + 1) (q - (head + 1)) q k j raw-quoted in (
-        omega arith,
-        subst (KeyedAs sw s) (e ∙ ap (λ (n : ℕ). stringItem sw isText Y.Raw (head + (q - (head + 1)) + 1) (q - (head + 1)) (drop n s)) i) y,
-      )
 
 -- ---- words
 
-pub word-part : (sw : Switches) (s : List ℕ) → tokenContent sw s ≡ some s
-    → PartIs sw s (record { istext = false; body = Y.Word; from = 0; to = length s })
+word-part : (sw : Switches) (s : List ℕ) → tokenContent sw s ≡ some s → PartIs sw s (wordPart (length s))
 unfolding contentOf content startOf
 word-part sw s e =
     record {
@@ -190,123 +173,59 @@ comment-whole m (b ∷ l) c e = opened (is "/" b) (is "*" b) e
     opened false false e = no-content c e
 
 -- of the classes but the small letters and the quote only words have a content, and theirs is all of them
-class-whole : (sw : Switches) (x : Class) (b : ℕ) (l c : List ℕ) → (classNumber x ≡ 3 → ⊥) → (classNumber x ≡ 5 → ⊥)
+class-whole : (sw : Switches) (x : Class) (b : ℕ) (l c : List ℕ) → mayOpen (classNumber x) ≡ false
     → wholeItem (length l) (itemOf sw x b l) ≡ some c → c ≡ b ∷ l
-unfolding itemOf classNumber wholeItem keyContent numberItem
-class-whole sw Class.space b l c m n e = absurd (no-content c e)
-class-whole sw Class.digit b l c m n e = absurd (number-whole (length l) (front isNumberByte l) (number (b ∷ take (front isNumberByte l) l)) c e)
-class-whole sw Class.capital b l c m n e = word-whole b l c e
-class-whole sw Class.small b l c m n e = absurd (m refl)
-class-whole sw Class.joiner b l c m n e = joined (is "_" b) e
+unfolding itemOf mayOpen oneOf classNumber wholeItem keyContent numberItem
+class-whole sw Class.space b l c m e = absurd (no-content c e)
+class-whole sw Class.digit b l c m e = absurd (number-whole (length l) (front isNumberByte l) (number (b ∷ take (front isNumberByte l) l)) c e)
+class-whole sw Class.capital b l c m e = word-whole b l c e
+class-whole sw Class.small b l c m e = absurd (false≢true (sym m))
+class-whole sw Class.joiner b l c m e = joined (is "_" b) e
   where
     joined : (t : Bool) → wholeItem (length l) (cond t (wordItem b l) (numberItem b l)) ≡ some c → c ≡ b ∷ l
     joined true e = word-whole b l c e
     joined false e = absurd (number-whole (length l) (front isNumberByte l) (number (b ∷ take (front isNumberByte l) l)) c e)
-class-whole sw Class.quote b l c m n e = absurd (n refl)
-class-whole sw Class.tick b l c m n e = absurd (no-content c e)
-class-whole sw Class.mark b l c m n e = absurd (none-both (eqb 0 (length l)) c e)
-class-whole sw Class.slash b l c m n e = absurd (comment-whole (length l) l c e)
-class-whole sw Class.plus b l c m n e = absurd (number-whole (length l) (front isNumberByte l) (number (b ∷ take (front isNumberByte l) l)) c e)
-class-whole sw Class.other b l c m n e = absurd (no-content c e)
+class-whole sw Class.quote b l c m e = absurd (false≢true (sym m))
+class-whole sw Class.tick b l c m e = absurd (no-content c e)
+class-whole sw Class.mark b l c m e = absurd (none-both (eqb 0 (length l)) c e)
+class-whole sw Class.slash b l c m e = absurd (comment-whole (length l) l c e)
+class-whole sw Class.plus b l c m e = absurd (number-whole (length l) (front isNumberByte l) (number (b ∷ take (front isNumberByte l) l)) c e)
+class-whole sw Class.other b l c m e = absurd (no-content c e)
 
--- ---- the item that a string or key is, by its first bytes
+-- ---- the part of a string or key
 
-pub keyed-some : (sw : Switches) (s : List ℕ) → Keyed sw s → 0 < length s
-unfolding tokenContent
-keyed-some sw [] y = absurd (no-content (y .content) (y .is))
-keyed-some sw (b ∷ l) y = omega arith
-
-module _ (sw : Switches) (n : ℕ) where
-  pub keyed-class : (s : List ℕ) (m : ℕ) → Keyed sw s → n ≡ classNumber (classOf (getD s 0 0)) → n ≡ m
-      → KeyedAs sw s (itemOf sw (classAt m) (getD s 0 0) (drop 1 s))
-  unfolding tokenContent item
-  keyed-class [] m y e f = absurd (no-content (y .content) (y .is))
-  keyed-class (b ∷ l) m y e f =
-      let j : suc (length l) - 1 ≡ length l = omega arith in
-      record {
-        content = y .content;
-        is = y .is;
-        whole = (λ i. wholeItem (j i) (itemOf sw (sym (class-by b n e ∙ ap classAt f) i) b l)) ∙ y .is;
-      }
-
-  pub keyed-word : (s : List ℕ) → Keyed sw s → n ≡ classNumber (classOf (getD s 0 0)) → (n ≡ 3 → ⊥) → (n ≡ 5 → ⊥)
-      → tokenContent sw s ≡ some s
-  unfolding tokenContent item
-  keyed-word [] y e f g = absurd (no-content (y .content) (y .is))
-  keyed-word (b ∷ l) y e f g =
-      y .is ∙ ap some (class-whole sw (classOf b) b l (y .content) (λ z. f (e ∙ z)) (λ z. g (e ∙ z)) (y .is))
-
-pub word-is : (sw : Switches) (s : List ℕ) → KeyedAs sw s (wordItem (getD s 0 0) (drop 1 s)) → tokenContent sw s ≡ some s
-unfolding tokenContent
-word-is sw [] y = absurd (no-content (y .content) (y .is))
-word-is sw (b ∷ l) y =
-    let j : length l ≡ suc (length l) - 1 = omega arith in
-    y .is ∙ ap some (word-whole b l (y .content) (ap (λ (n : ℕ). wholeItem n (wordItem b l)) j ∙ y .whole))
-
--- a small letter
-module _ (sw : Switches) (s : List ℕ) (y : KeyedAs sw s (smallItem sw (getD s 0 0) (drop 1 s))) where
-  module _ (e : getD s 0 0 ≡ 98) where
-    pub b-quoted : getD s 1 0 ≡ 34 → KeyedAs sw s (stringItem sw false Y.Quoted 1 0 (drop 2 s))
-    b-quoted f = subst (KeyedAs sw s) (small-b sw s 0 e ∙ rw (eq-eqb (getD s 1 0) 34 f)) y
-
-    module _ (f : getD s 1 0 ≡ 34 → ⊥) where
-      pub b-base64 : (sw .base64 && begins (54 ∷ 52 ∷ 34 ∷ []) (drop 1 s)) ≡ true → KeyedAs sw s (stringItem sw false Y.Base64 3 0 (drop 4 s))
-      b-base64 g = subst (KeyedAs sw s) (small-b sw s 0 e ∙ rw (ne-eqb (getD s 1 0) 34 f, g)) y
-
-      module _ (g : (sw .base64 && begins (54 ∷ 52 ∷ 34 ∷ []) (drop 1 s)) ≡ false) where
-        pub b-raw : getD s 1 0 ≡ 114 → (eqb (getD s 2 0) 34 || eqb (getD s 2 0) 35) ≡ true → KeyedAs sw s (rawItem sw false 1 (drop 2 s))
-        b-raw i j = subst (KeyedAs sw s) (small-b sw s 0 e ∙ rw (ne-eqb (getD s 1 0) 34 f, g, eq-eqb (getD s 1 0) 114 i, j)) y
-
-        pub br-word : getD s 1 0 ≡ 114 → (eqb (getD s 2 0) 34 || eqb (getD s 2 0) 35) ≡ false → tokenContent sw s ≡ some s
-        br-word i j =
-            word-is sw s (subst (KeyedAs sw s) (small-b sw s 0 e ∙ rw (ne-eqb (getD s 1 0) 34 f, g, eq-eqb (getD s 1 0) 114 i, j)) y)
-
-        pub b-word : (getD s 1 0 ≡ 114 → ⊥) → tokenContent sw s ≡ some s
-        b-word i = word-is sw s (subst (KeyedAs sw s) (small-b sw s 0 e ∙ rw (ne-eqb (getD s 1 0) 34 f, g, ne-eqb (getD s 1 0) 114 i)) y)
-
-  module _ (e : getD s 0 0 ≡ 114) where
-    pub r-raw : (eqb (getD s 1 0) 34 || eqb (getD s 1 0) 35) ≡ true → KeyedAs sw s (rawItem sw true 0 (drop 1 s))
-    r-raw j = subst (KeyedAs sw s) (small-r sw s 0 e ∙ rw j) y
-
-    pub r-word : (eqb (getD s 1 0) 34 || eqb (getD s 1 0) 35) ≡ false → tokenContent sw s ≡ some s
-    r-word j = word-is sw s (subst (KeyedAs sw s) (small-r sw s 0 e ∙ rw j) y)
-
-  pub small-word : (getD s 0 0 ≡ 98 → ⊥) → (getD s 0 0 ≡ 114 → ⊥) → tokenContent sw s ≡ some s
-  small-word m n = word-is sw s (subst (KeyedAs sw s) (small-other sw s 0 m n) y)
-
--- the same by the first byte itself
-module _ (sw : Switches) (s : List ℕ) (y : Keyed sw s) where
-  keyed-at : (b m : ℕ) → getD s 0 0 ≡ b → m ≡ classNumber (classOf b) → KeyedAs sw s (itemOf sw (classAt m) (getD s 0 0) (drop 1 s))
-  keyed-at b m e f = keyed-class sw m s m y (f ∙ ap (λ (x : ℕ). classNumber (classOf x)) (sym e)) refl
-
-  pub keyed-quote : getD s 0 0 ≡ 34 → KeyedAs sw s (stringItem sw true Y.Quoted 0 0 (drop 1 s))
-  unfolding itemOf classAt classOf classNumber
-  keyed-quote e = keyed-at 34 5 e refl
-
-  pub keyed-b : getD s 0 0 ≡ 98 → KeyedAs sw s (smallItem sw (getD s 0 0) (drop 1 s))
-  unfolding itemOf classAt classOf classNumber
-  keyed-b e = keyed-at 98 3 e refl
-
-  pub keyed-r : getD s 0 0 ≡ 114 → KeyedAs sw s (smallItem sw (getD s 0 0) (drop 1 s))
-  unfolding itemOf classAt classOf classNumber
-  keyed-r e = keyed-at 114 3 e refl
-
--- a string or key that begins with none of the bytes that open strings is a word
-pub keyed-own : (sw : Switches) (s : List ℕ) → Keyed sw s → getD s 0 0 < 256 → (getD s 0 0 ≡ 34 → ⊥) → (getD s 0 0 ≡ 98 → ⊥) → (getD s 0 0 ≡ 114 → ⊥)
-    → tokenContent sw s ≡ some s
-unfolding itemOf classAt
-keyed-own sw s y h k m n = by-class (eqb c 3) (eqb c 5) refl refl
+-- its item is what opens there
+opened-part : (sw : Switches) (s : List ℕ) (o : Opening) → openingOf sw s ≡ o → KeyedAs sw s (openedItem sw o s) → PartIs sw s (openedPart (length s) o)
+unfolding openedItem openedPart wholeItem tokenContent
+opened-part sw s (O.String h) e y = let w = head-within sw s h e in string-part sw s h (omega arith) (w .0) y
+opened-part sw s O.Broken e y = absurd (no-content (y .content) (y .whole))
+opened-part sw s O.Nothing e y = word-part sw s (own s y)
   where
-    c : ℕ
-    c = classNumber (classOf (getD s 0 0))
+    own : (s : List ℕ) → KeyedAs sw s (wordItem (getD s 0 0) (drop 1 s)) → tokenContent sw s ≡ some s
+    own [] y = absurd (no-content (y .content) (y .is))
+    own (b ∷ l) y =
+        let j : length l ≡ suc (length l) - 1 = omega arith in
+        y .is ∙ ap some (word-whole b l (y .content) (ap (λ (n : ℕ). wholeItem n (wordItem b l)) j ∙ y .whole))
 
-    no : (x z : ℕ) → eqb x z ≡ false → x ≡ z → ⊥
-    no x z e f = false≢true (sym e ∙ eq-eqb x z f)
-
-    by-class : (t u : Bool) → eqb c 3 ≡ t → eqb c 5 ≡ u → tokenContent sw s ≡ some s
-    by-class true u e f = small-word sw s (keyed-class sw c s 3 y refl (same-by c 3 e)) m n
-    by-class false true e f = absurd (k (quote-number (getD s 0 0) h (same-by c 5 f)))
-    by-class false false e f = keyed-word sw c s y refl (no c 3 e) (no c 5 f)
+-- the content of a string or key is that of its part
+pub part-holds : (sw : Switches) (s : List ℕ) → Keyed sw s → PartIs sw s (partOf sw s)
+unfolding tokenContent partOf openedPart item
+part-holds sw [] y = absurd (no-content (y .content) (y .is))
+part-holds sw (b ∷ l) y = by (mayOpen (classNumber (classOf b))) refl
+  where
+    by : (t : Bool) → mayOpen (classNumber (classOf b)) ≡ t → PartIs sw (b ∷ l) (openedPart (suc (length l)) (openingOf sw (b ∷ l)))
+    by true q =
+        let j : suc (length l) - 1 ≡ length l = omega arith in
+        opened-part sw (b ∷ l) (openingOf sw (b ∷ l)) refl
+        (record {
+          content = y .content;
+          is = y .is;
+          whole = (λ i. wholeItem (j i) (sym (opening-item sw b l q) i)) ∙ y .is;
+        })
+    by false q =
+        subst (λ (o : Opening). PartIs sw (b ∷ l) (openedPart (suc (length l)) o)) (sym (opening-none sw b l q))
+        (word-part sw (b ∷ l)
+        (y .is ∙ ap some (class-whole sw (classOf b) b l (y .content) q (y .is))))
 
 -- ---- what an answer of `item_at` says
 
@@ -403,12 +322,10 @@ part-content sw s l false body y e = e
 
 -- ---- a string or key against a body
 
-module _ (sw : Switches) (s : List ℕ) (p : Part) (body : Body) where
-  pub part-same : (t : List ℕ) → Keyed sw s → PartIs sw s p
-      → sameContent (content sw (p .body) (take (p .to - p .from) (drop (p .from) s))) (content sw body t) ≡ sameContent (tokenContent sw s) (content sw body t)
-  part-same t y i =
-      ap (λ (o : Option (List ℕ)). sameContent o (content sw body t)) (part-content sw s (take (p .to - p .from) (drop (p .from) s)) (p .istext) (p .body) y (i .holds))
-
-  pub part-other : {t : List ℕ} {r : Bool} → Keyed sw s → PartIs sw s p → Apart (p .body) (take (p .to - p .from) (drop (p .from) s)) body t r
-      → OtherIf sw s body t r
-  part-other {t} y i a = record { is = λ e. sym (part-same t y i) ∙ a .is e sw }
+pub part-same : (sw : Switches) (s : List ℕ) (p : Part) (body : Body) (t : List ℕ) → Keyed sw s → p ≡ partOf sw s
+    → sameContent (content sw (p .body) (take (p .span .stop - p .span .start) (drop (p .span .start) s))) (content sw body t)
+    ≡ sameContent (tokenContent sw s) (content sw body t)
+part-same sw s p body t y e =
+    let i = subst (PartIs sw s) (sym e) (part-holds sw s y) in
+    ap (λ (o : Option (List ℕ)). sameContent o (content sw body t))
+    (part-content sw s (take (p .span .stop - p .span .start) (drop (p .span .start) s)) (p .«is_text») (p .body) y (i .holds))

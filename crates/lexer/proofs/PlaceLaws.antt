@@ -15,6 +15,7 @@ use borrow.Author.Tests.{eq-eqb, ne-eqb, lt-ltb, le-ltb}
 use Rattle.text.specs.declared.switches.Switches.{Switches}
 use Rattle.text.specs.Bytes.{front, begins, is, Class, classOf, classNumber, isWordByte, isNumberByte}
 use Rattle.text.proofs.ClassLaws.{classAt, class-by}
+use Rattle.text.proofs.ListLaws.{getD-inside, drop-next, part-next}
 use Rattle.literals.specs.declared.decoder.Body.{Body}
 use Rattle.literals.specs.declared.decoder.Body.the-variants as Y
 use Rattle.literals.specs.declared.content.Measure.the-variants as M
@@ -30,70 +31,12 @@ use Rattle.lexer.specs.Closing.{closing, block, notNewline}
 use Rattle.lexer.specs.Token.{fault, blockItem, comment, contentItem, closedItem, hasEscapes, stringItem, hashCount, rawItem, opensRaw, wordItem, meantItem, numberItem, smallItem, itemOf, item, itemAt}
 use Rattle.lexer.specs.Answer.{kindOf, found, foundAt}
 use Rattle.lexer.specs.Internal.{stringFound}
-use Rattle.lexer.proofs.ItemCases.{front-le, begins-le}
-
--- ---- the bytes of a list by their places
-
-and-true : (a : Bool) → (a && true) ≡ a
-and-true true = refl
-and-true false = refl
-
--- 0 stands past the end alone
-pub past : (s : List ℕ) (i : ℕ) → length s ≤ i → getD s i 0 ≡ 0
-past [] i h = refl
-past (x ∷ s) zero h = absurd (omega arith)
-past (x ∷ s) (suc i) h = past s i (omega arith)
-
-pub there : (s : List ℕ) (i c : ℕ) → getD s i 0 ≡ c → 0 < c → i < length s
-there [] i c e h = absurd (omega arith)
-there (x ∷ s) zero c e h = omega arith
-there (x ∷ s) (suc i) c e h = let k = there s i c e h in omega arith
-
-pub split : (s : List ℕ) (i j : ℕ) → j ≡ i + 1 → i < length s → drop i s ≡ getD s i 0 ∷ drop j s
-split s i j e h = rw (e, add-one) (drop-cons s i 0 h)
-
-begins-next : (s : List ℕ) (i x : ℕ) (xs : List ℕ) → 0 < x
-    → begins (x ∷ xs) (drop i s) ≡ (eqb (getD s i 0) x && begins xs (drop (i + 1) s))
-unfolding begins
-begins-next [] zero x xs h = let n : 0 ≡ x → ⊥ = λ e. omega arith in rw (ne-eqb 0 x n)
-begins-next [] (suc i) x xs h = let n : 0 ≡ x → ⊥ = λ e. omega arith in rw (ne-eqb 0 x n)
-begins-next (y ∷ s) zero x xs h = refl
-begins-next (y ∷ s) (suc i) x xs h =
-    begins-next s i x xs h ∙ ap (λ (n : ℕ). eqb (getD s i 0) x && begins xs (drop n (y ∷ s))) (sym (suc-add i 1))
-
-begins-one : (s : List ℕ) (i x : ℕ) → 0 < x → begins (x ∷ []) (drop i s) ≡ eqb (getD s i 0) x
-unfolding begins
-begins-one s i x h = begins-next s i x [] h ∙ and-true (eqb (getD s i 0) x)
-
-pub opens-raw : (s : List ℕ) (i : ℕ) → opensRaw (drop i s) ≡ (eqb (getD s i 0) 34 || eqb (getD s i 0) 35)
-unfolding opensRaw
-opens-raw s i = rw (begins-one s i 34 (omega arith), begins-one s i 35 (omega arith))
-
-pub opens-base64 : (s : List ℕ) (i : ℕ)
-    → begins (54 ∷ 52 ∷ 34 ∷ []) (drop i s) ≡ (eqb (getD s i 0) 54 && (eqb (getD s (i + 1) 0) 52 && eqb (getD s (i + 2) 0) 34))
-opens-base64 s i =
-    let e : i + 1 + 1 ≡ i + 2 = omega arith in
-    rw (begins-next s i 54 (52 ∷ 34 ∷ []) (omega arith), begins-next s (i + 1) 52 (34 ∷ []) (omega arith), begins-one s (i + 1 + 1) 34 (omega arith), e)
-
--- where `64"` stands, three bytes do
-pub base64-room : (x : Bool) (s : List ℕ) (i : ℕ) → (x && begins (54 ∷ 52 ∷ 34 ∷ []) (drop i s)) ≡ true → i + 3 ≤ length s
-base64-room true s i e =
-    let h = begins-le (54 ∷ 52 ∷ 34 ∷ []) (drop i s) (subst T (sym e) tt) in
-    let d = length-drop i s in
-    omega arith
-base64-room false s i e = absurd (false≢true e)
+use Rattle.lexer.proofs.ItemCases.{front-le}
 
 -- ---- runs
 
 pub run-within : (p : ℕ → Bool) (s : List ℕ) (from : ℕ) → from ≤ length s → from + front p (drop from s) ≤ length s
 run-within p s from h = let l = front-le p (drop from s) in let d = length-drop from s in omega arith
-
--- the bytes from `at` to the end of the run that follows it
-pub run-part : (s : List ℕ) (at n end : ℕ) → at < length s → end ≡ at + 1 + n
-    → take (end - at) (drop at s) ≡ getD s at 0 ∷ take n (drop (at + 1) s)
-run-part s at n end h e =
-    let m : end - at ≡ suc n = omega arith in
-    rw (m, split s at (at + 1) refl h)
 
 -- ---- comments
 
@@ -102,17 +45,17 @@ module _ (s : List ℕ) (at : ℕ) where
       → F.Gap end ≡ found at (comment (drop (at + 1) s))
   unfolding comment found
   line-found end e r =
-      let h = there s (at + 1) 47 e (omega arith) in
+      let h = getD-inside s (at + 1) 47 e (omega arith) in
       let j : at + 2 ≡ at + 1 + 1 = omega arith in
-      rw (split s (at + 1) (at + 2) j h, eq-eqb (getD s (at + 1) 0) 47 e) (ap F.Gap (omega arith))
+      rw (drop-next s (at + 1) (at + 2) j h, eq-eqb (getD s (at + 1) 0) 47 e) (ap F.Gap (omega arith))
 
   pub block-found : (getD s (at + 1) 0 ≡ 47 → ⊥) → getD s (at + 1) 0 ≡ 42
       → found at (comment (drop (at + 1) s)) ≡ found at (blockItem (block (drop (at + 2) s)))
   unfolding comment
   block-found n e =
-      let h = there s (at + 1) 42 e (omega arith) in
+      let h = getD-inside s (at + 1) 42 e (omega arith) in
       let j : at + 2 ≡ at + 1 + 1 = omega arith in
-      rw (split s (at + 1) (at + 2) j h, ne-eqb (getD s (at + 1) 0) 47 n, eq-eqb (getD s (at + 1) 0) 42 e)
+      rw (drop-next s (at + 1) (at + 2) j h, ne-eqb (getD s (at + 1) 0) 47 n, eq-eqb (getD s (at + 1) 0) 42 e)
 
 no-comment : (l : List ℕ) → (getD l 0 0 ≡ 47 → ⊥) → (getD l 0 0 ≡ 42 → ⊥) → comment l ≡ fault 3
 unfolding comment
@@ -172,26 +115,6 @@ module _ (sw : Switches) (isText : Bool) (body : Body) (at head k : ℕ) (l : Li
   unfolding stringItem closedItem found
   hashes-found j n e = rw e
 
--- a raw string's opening: hashes from `from` to before q, and a quote at q or none
-module _ (sw : Switches) (isText : Bool) (head : ℕ) (s : List ℕ) (from k q : ℕ) (k-is : k ≡ front (is "#") (drop from s)) (q-is : q ≡ from + k) where
-  quote-there : begins (34 ∷ []) (drop (hashCount (drop from s)) (drop from s)) ≡ eqb (getD s q 0) 34
-  unfolding hashCount
-  quote-there =
-      ap (λ (n : ℕ). begins (34 ∷ []) (drop n (drop from s))) (sym k-is) ∙ ap (begins (34 ∷ [])) (drop-drop k from s)
-      ∙ ap (λ (n : ℕ). begins (34 ∷ []) (drop n s)) (sym q-is) ∙ begins-one s q 34 (omega arith)
-
-  pub raw-opens : getD s q 0 ≡ 34 → rawItem sw isText head (drop from s) ≡ stringItem sw isText Y.Raw (head + k + 1) k (drop (from + (k + 1)) s)
-  unfolding rawItem hashCount
-  raw-opens e =
-      ap (λ (t : Bool). cond t (stringItem sw isText Y.Raw (head + hashCount (drop from s) + 1) (hashCount (drop from s)) (drop (hashCount (drop from s) + 1) (drop from s))) (fault 3)) (quote-there ∙ eq-eqb (getD s q 0) 34 e)
-      ∙ ap (λ (n : ℕ). stringItem sw isText Y.Raw (head + n + 1) n (drop (n + 1) (drop from s))) (sym k-is)
-      ∙ ap (stringItem sw isText Y.Raw (head + k + 1) k) (drop-drop (k + 1) from s)
-
-  pub raw-fails : (getD s q 0 ≡ 34 → ⊥) → rawItem sw isText head (drop from s) ≡ fault 3
-  unfolding rawItem
-  raw-fails n =
-      ap (λ (t : Bool). cond t (stringItem sw isText Y.Raw (head + hashCount (drop from s) + 1) (hashCount (drop from s)) (drop (hashCount (drop from s) + 1) (drop from s))) (fault 3)) (quote-there ∙ ne-eqb (getD s q 0) 34 n)
-
 -- ---- words and numbers
 
 module _ (s : List ℕ) (at end : ℕ) (h : at < length s) where
@@ -199,45 +122,19 @@ module _ (s : List ℕ) (at end : ℕ) (h : at < length s) where
       → F.Token K.Word end ≡ found at (wordItem (getD s at 0) (drop (at + 1) s))
   unfolding wordItem found kindOf
   word-found e t =
-      rw (sym (ap hasShape (run-part s at (front isWordByte (drop (at + 1) s)) end h e)) ∙ t) (ap (F.Token K.Word) (omega arith))
+      rw (sym (ap hasShape (part-next s at (front isWordByte (drop (at + 1) s)) end h e)) ∙ t) (ap (F.Token K.Word) (omega arith))
 
   pub word-bad : end ≡ at + 1 + front isWordByte (drop (at + 1) s) → hasShape (take (end - at) (drop at s)) ≡ false
       → F.Refused 3 ≡ found at (wordItem (getD s at 0) (drop (at + 1) s))
   unfolding wordItem found
-  word-bad e t = rw (sym (ap hasShape (run-part s at (front isWordByte (drop (at + 1) s)) end h e)) ∙ t)
+  word-bad e t = rw (sym (ap hasShape (part-next s at (front isWordByte (drop (at + 1) s)) end h e)) ∙ t)
 
   pub number-found : (m : Meaning) → end ≡ at + 1 + front isNumberByte (drop (at + 1) s) → number (take (end - at) (drop at s)) ≡ m
       → found at (numberItem (getD s at 0) (drop (at + 1) s)) ≡ found at (meantItem (front isNumberByte (drop (at + 1) s)) m)
   unfolding numberItem
   number-found m e t =
       ap (λ (x : Meaning). found at (meantItem (front isNumberByte (drop (at + 1) s)) x))
-      (sym (ap number (run-part s at (front isNumberByte (drop (at + 1) s)) end h e)) ∙ t)
-
--- ---- small letters
-
-module _ (sw : Switches) (s : List ℕ) (at : ℕ) where
-  pub small-b : getD s at 0 ≡ 98
-      → smallItem sw (getD s at 0) (drop (at + 1) s)
-      ≡ cond (eqb (getD s (at + 1) 0) 34) (stringItem sw false Y.Quoted 1 0 (drop (at + 1 + 1) s))
-      (cond (sw .base64 && begins (54 ∷ 52 ∷ 34 ∷ []) (drop (at + 1) s)) (stringItem sw false Y.Base64 3 0 (drop (at + 1 + 3) s))
-      (cond (eqb (getD s (at + 1) 0) 114 && (eqb (getD s (at + 2) 0) 34 || eqb (getD s (at + 2) 0) 35)) (rawItem sw false 1 (drop (at + 1 + 1) s))
-      (wordItem (getD s at 0) (drop (at + 1) s))))
-  unfolding smallItem
-  small-b e =
-      let f : at + 1 + 1 ≡ at + 2 = omega arith in
-      rw (e, drop-drop 1 (at + 1) s, drop-drop 3 (at + 1) s, begins-one s (at + 1) 34 (omega arith), begins-one s (at + 1) 114 (omega arith), opens-raw s (at + 1 + 1), f)
-
-  pub small-r : getD s at 0 ≡ 114
-      → smallItem sw (getD s at 0) (drop (at + 1) s)
-      ≡ cond (eqb (getD s (at + 1) 0) 34 || eqb (getD s (at + 1) 0) 35) (rawItem sw true 0 (drop (at + 1) s))
-      (wordItem (getD s at 0) (drop (at + 1) s))
-  unfolding smallItem
-  small-r e = rw (e, opens-raw s (at + 1))
-
-  pub small-other : (getD s at 0 ≡ 98 → ⊥) → (getD s at 0 ≡ 114 → ⊥)
-      → smallItem sw (getD s at 0) (drop (at + 1) s) ≡ wordItem (getD s at 0) (drop (at + 1) s)
-  unfolding smallItem
-  small-other m n = rw (ne-eqb (getD s at 0) 98 m, ne-eqb (getD s at 0) 114 n)
+      (sym (ap number (part-next s at (front isNumberByte (drop (at + 1) s)) end h e)) ∙ t)
 
 -- ---- the item at a place, by the number of its first byte's class
 

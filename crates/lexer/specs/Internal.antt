@@ -1,29 +1,21 @@
 -- What only the contracts of this crate's inner functions cite, and of those that are public for the crates above alone.
 -- Nothing here has to be believed: the other public contracts don't name it.
 -- Assumes nothing.
-use Prim.Native.Nat.{ℕ, _+_, _-_, _≤_}
+use Prim.Native.Nat.{ℕ, _+_}
 use mathlib.Core.Path.{_≡_}
 use mathlib.Core.Bool.{Bool, true, false}
 use mathlib.Core.List.{List}
 use mathlib.Core.Option.{Option, none, some}
-use lib.ListN.{length, take, drop}
 use Rattle.text.specs.declared.switches.Switches.{Switches}
-use Rattle.text.specs.Bytes.{isWordByte, isNumberByte, is}
-use Rattle.literals.specs.declared.decoder.Body.{Body}
-use Rattle.literals.specs.Content.{content, contentOf, sameContent}
 use Rattle.lexer.specs.declared.closing.Closing.{Closing}
 use Rattle.lexer.specs.declared.closing.Closing.the-variants as C
 use Rattle.lexer.specs.declared.closing.Block.{Block}
 use Rattle.lexer.specs.declared.closing.Block.the-variants as B
-use Rattle.lexer.specs.declared.runs.Run.{Run}
-use Rattle.lexer.specs.declared.runs.Run.the-variants as R
 use Rattle.lexer.specs.declared.item.Found.{Found}
 use Rattle.lexer.specs.declared.item.Found.the-variants as F
 use Rattle.lexer.specs.declared.item.TokenKind.{TokenKind}
 use Rattle.lexer.specs.declared.item.TokenKind.the-variants as K
-use Rattle.lexer.specs.declared.token.Part.{Part}
-use Rattle.lexer.specs.Closing.{notNewline}
-use Rattle.lexer.specs.Token.{Item, stringForm, wholeItem, tokenContent}
+use Rattle.lexer.specs.Token.{stringForm, tokenContent}
 use Rattle.lexer.specs.Answer.{kindOf}
 
 -- what the machine has counted
@@ -52,13 +44,6 @@ isShut (B.Inside n) = false
 isShut (B.Starred n) = false
 isShut (B.Closed n) = true
 
--- the test of a run's bytes
-unfoldable pub passes : Run → ℕ → Bool
-passes R.Word b = isWordByte b
-passes R.Number b = isNumberByte b
-passes R.Line b = notNewline b
-passes R.Hash b = is "#" b
-
 -- a string token that ends before `end`, by its content
 unfoldable pub stringFound : (isText : Bool) (end : ℕ) → Option (List ℕ) → Found
 stringFound isText end none = F.Refused 4
@@ -84,23 +69,3 @@ hasContent (some content) = true
 pub record Keyed (sw : Switches) (s : List ℕ) : Type 0 where
   pub content : List ℕ
   pub is : tokenContent sw s ≡ some content
-
--- they are, and i is the item that they are
-pub record KeyedAs (sw : Switches) (s : List ℕ) (i : Item) : Type 0 where
-  pub content : List ℕ
-  pub is : tokenContent sw s ≡ some content
-  pub whole : wholeItem (length s - 1) i ≡ some content
-
--- their content is that of a part of them
-pub record PartIs (sw : Switches) (s : List ℕ) (p : Part) : Type 0 where
-  pub forward : p .from ≤ p .to
-  pub inside : p .to ≤ length s
-  pub holds : contentOf sw (p .istext) (p .body) (take (p .to - p .from) (drop (p .from) s)) ≡ tokenContent sw s
-
--- where r is true they are a word, and so their own content
-pub record WordIf (sw : Switches) (s : List ℕ) (r : Bool) : Type 0 where
-  pub own : r ≡ true → tokenContent sw s ≡ some s
-
--- where r is true their content is not that of a body
-pub record OtherIf (sw : Switches) (s : List ℕ) (body : Body) (t : List ℕ) (r : Bool) : Type 0 where
-  pub is : r ≡ true → sameContent (tokenContent sw s) (content sw body t) ≡ false

@@ -1,5 +1,7 @@
-// The text cut into tokens: what stands at a place, the next token from a place, and a token by itself.
+// The text cut into tokens: what opens a string and where one ends, what stands at a place, the next token from a place, and a token
+// by itself.
 pub mod closing;
 pub mod item;
+pub mod opening;
 pub mod runs;
 pub mod token;

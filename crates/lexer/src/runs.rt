@@ -1,76 +1,93 @@
-// Runs of bytes that pass a test: words, numbers, line comments, hashes.
+// Where runs of bytes end: words, numbers, line comments, hashes.
 ghost use mathlib.Core.Path.{_≡_};
-ghost use Prim.Native.Nat.{_≤_, _+_};
-ghost use lib.ListN.{length, drop};
-ghost use Rattle.text.specs.Bytes.{front, isWordByte};
-ghost use Rattle.lexer.specs.Internal.{passes};
+ghost use Prim.Native.Nat.{_+_};
+ghost use lib.ListN.{drop};
+ghost use Rattle.text.specs.Bytes.{front, is, isWordByte, isNumberByte};
+ghost use Rattle.text.specs.Internal.{ClassTable};
+ghost use Rattle.lexer.specs.Closing.{notNewline};
+use text::bytes;
+use text::bytes::class_of;
 
-// What a run runs over: the bytes of a word, of a number, of a line comment, hashes.
-pub enum Run {
-    Word,
-    Number,
-    Line,
-    Hash,
-}
-
-// A letter, a digit or a joiner. It is asked of every byte of a word, so the byte is compared: a lookup copies the table of classes.
-fn is_word_byte(b: u8) -> bool
+// A letter, a digit or a joiner.
+fn is_word_byte(classes: &[u8; 256], b: u8) -> bool
+    requires { ⌜ ClassTable (now classes) ⌝ }
     ensures { λ r. ⌜ r ≡ isWordByte b ⌝ }
 {
-    if b < b'0' {
-        return b == b'-';
-    }
-    if b <= b'9' {
-        return true;
-    }
-    if b < b'A' {
+    let class = class_of(classes, b);
+    if class < bytes::DIGIT {
         return false;
     }
-    if b <= b'Z' {
+    class <= bytes::JOINER
+}
+
+// The same, or a point or a plus.
+fn is_number_byte(classes: &[u8; 256], b: u8) -> bool
+    requires { ⌜ ClassTable (now classes) ⌝ }
+    ensures { λ r. ⌜ r ≡ isNumberByte b ⌝ }
+{
+    if b == b'.' {
         return true;
     }
-    if b < b'a' {
-        return b == b'_';
+    if b == b'+' {
+        return true;
     }
-    b <= b'z'
+    is_word_byte(classes, b)
 }
 
-fn in_run(run: Run, b: u8) -> bool
-    ensures { λ r. ⌜ r ≡ passes run b ⌝ }
-{
-    match run {
-        Run::Word => is_word_byte(b),
-        Run::Number => {
-            if b == b'.' {
-                return true;
-            }
-            if b == b'+' {
-                return true;
-            }
-            is_word_byte(b)
-        }
-        Run::Line => {
-            if b == 0x0a {
-                return false;
-            }
-            b != 0x0d
-        }
-        Run::Hash => b == b'#',
-    }
-}
-
-// Where the run from `from` ends.
-pub fn run_end(text: &[u8], from: usize, run: Run) -> usize
-    requires { ⌜ from ≤ length (now text) ⌝ }
-    ensures { λ r. ⌜ r ≡ from + front (passes run) (drop from (now (text .entry))) ⌝ }
+pub(crate) fn word_end(classes: &[u8; 256], text: &[u8], from: usize) -> usize
+    requires { ⌜ ClassTable (now classes) ⌝ }
+    ensures { λ r. ⌜ r ≡ from + front isWordByte (drop from (now (text .entry))) ⌝ }
 {
     let mut i = from;
     while i < text.len() {
-        if in_run(run, text[i]) {
-            i += 1;
-        } else {
+        if !is_word_byte(classes, text[i]) {
             return i;
         }
+        i += 1;
+    }
+    i
+}
+
+pub(crate) fn number_end(classes: &[u8; 256], text: &[u8], from: usize) -> usize
+    requires { ⌜ ClassTable (now classes) ⌝ }
+    ensures { λ r. ⌜ r ≡ from + front isNumberByte (drop from (now (text .entry))) ⌝ }
+{
+    let mut i = from;
+    while i < text.len() {
+        if !is_number_byte(classes, text[i]) {
+            return i;
+        }
+        i += 1;
+    }
+    i
+}
+
+// Where a line ends: before a line feed or a carriage return, or at the text's end.
+pub(crate) fn line_end(text: &[u8], from: usize) -> usize
+    ensures { λ r. ⌜ r ≡ from + front notNewline (drop from (now (text .entry))) ⌝ }
+{
+    let mut i = from;
+    while i < text.len() {
+        if text[i] == b'\n' {
+            return i;
+        }
+        if text[i] == b'\r' {
+            return i;
+        }
+        i += 1;
+    }
+    i
+}
+
+pub(crate) fn hashes_end(text: &[u8], from: usize) -> usize
+    ensures { λ r. ⌜ r ≡ from + front (is "#") (drop from (now (text .entry))) ⌝ }
+{
+    let mut i = from;
+    while i < text.len() {
+        if text[i] != b'#' {
+            return i;
+        }
+        i += 1;
     }
     i
 }

@@ -1,16 +1,45 @@
--- A class by its number, the one byte of the class 5, the letters of the class 3, and that bytes above 127 are of no class of their own.
+-- The table of classes, a class by its number, the one byte of the class 5, the bytes of words by their classes, and that bytes above
+-- 127 are of no class of their own.
 -- Assumes nothing.
 use mathlib.Core.Path.{_≡_, refl, sym, ap, _∙_, subst}
 use Prim.Native.Nat.{ℕ, _<_, _≤_}
-use mathlib.Core.Bool.{Bool, true, cond, _&&_, _||_}
+use mathlib.Core.Bool.{Bool, true, false, not, cond, _&&_, _||_}
 use mathlib.Core.List.{List, [], _∷_}
-use lib.Dec.{T, leb, eqb, eqb→eq, leb→le}
-use lib.ListN.{replicate, length-replicate}
+use lib.Dec.{T, leb, ltb, eqb, eqb→eq, leb→le}
+use lib.ListN.{getD, replicate, length-replicate}
 use native.Mathlib.Omega.{arith}
-use borrow.Author.Tests.{le-leb}
-use Rattle.text.specs.Bytes.{Class, space, digit, capital, small, joiner, quote, tick, mark, slash, plus, other, classOf, classNumber, oneOf, isSpace, isDigit, isCapital, isSmall, isJoiner, is, ascii, within}
+use borrow.Author.Tests.{ltb-true, ltb-false}
+use Rattle.text.specs.Bytes.{Class, space, digit, capital, small, joiner, quote, tick, mark, slash, plus, other, classOf, classNumber, oneOf, isSpace, isDigit, isCapital, isSmall, isJoiner, isLetterOrDigit, isWordByte, is, ascii, within}
+use Rattle.text.specs.Internal.{ClassTable}
 use Rattle.text.proofs.Choice.{cond-both, both-right, or-case}
 use Rattle.text.proofs.Table.{every, at}
+
+-- ---- the table of src/bytes.rt
+
+unfoldable pub classTable : List ℕ
+classTable =
+    10 ∷ 10 ∷ 10 ∷ 10 ∷ 10 ∷ 10 ∷ 10 ∷ 10 ∷ 10 ∷ 0 ∷ 0 ∷ 10 ∷ 10 ∷ 0 ∷ 10 ∷ 10 ∷ 10 ∷ 10 ∷ 10 ∷ 10 ∷ 10 ∷ 10 ∷ 10 ∷ 10 ∷ 10 ∷ 10 ∷ 10 ∷ 10 ∷ 10 ∷ 10 ∷ 10 ∷ 10 ∷
+    0 ∷ 10 ∷ 5 ∷ 10 ∷ 10 ∷ 10 ∷ 10 ∷ 6 ∷ 7 ∷ 7 ∷ 10 ∷ 9 ∷ 7 ∷ 4 ∷ 10 ∷ 8 ∷ 1 ∷ 1 ∷ 1 ∷ 1 ∷ 1 ∷ 1 ∷ 1 ∷ 1 ∷ 1 ∷ 1 ∷ 7 ∷ 10 ∷ 10 ∷ 10 ∷ 10 ∷ 10 ∷
+    10 ∷ 2 ∷ 2 ∷ 2 ∷ 2 ∷ 2 ∷ 2 ∷ 2 ∷ 2 ∷ 2 ∷ 2 ∷ 2 ∷ 2 ∷ 2 ∷ 2 ∷ 2 ∷ 2 ∷ 2 ∷ 2 ∷ 2 ∷ 2 ∷ 2 ∷ 2 ∷ 2 ∷ 2 ∷ 2 ∷ 2 ∷ 7 ∷ 10 ∷ 7 ∷ 10 ∷ 4 ∷
+    10 ∷ 3 ∷ 3 ∷ 3 ∷ 3 ∷ 3 ∷ 3 ∷ 3 ∷ 3 ∷ 3 ∷ 3 ∷ 3 ∷ 3 ∷ 3 ∷ 3 ∷ 3 ∷ 3 ∷ 3 ∷ 3 ∷ 3 ∷ 3 ∷ 3 ∷ 3 ∷ 3 ∷ 3 ∷ 3 ∷ 3 ∷ 7 ∷ 10 ∷ 7 ∷ 10 ∷ 10 ∷
+    10 ∷ 10 ∷ 10 ∷ 10 ∷ 10 ∷ 10 ∷ 10 ∷ 10 ∷ 10 ∷ 10 ∷ 10 ∷ 10 ∷ 10 ∷ 10 ∷ 10 ∷ 10 ∷ 10 ∷ 10 ∷ 10 ∷ 10 ∷ 10 ∷ 10 ∷ 10 ∷ 10 ∷ 10 ∷ 10 ∷ 10 ∷ 10 ∷ 10 ∷ 10 ∷ 10 ∷ 10 ∷
+    10 ∷ 10 ∷ 10 ∷ 10 ∷ 10 ∷ 10 ∷ 10 ∷ 10 ∷ 10 ∷ 10 ∷ 10 ∷ 10 ∷ 10 ∷ 10 ∷ 10 ∷ 10 ∷ 10 ∷ 10 ∷ 10 ∷ 10 ∷ 10 ∷ 10 ∷ 10 ∷ 10 ∷ 10 ∷ 10 ∷ 10 ∷ 10 ∷ 10 ∷ 10 ∷ 10 ∷ 10 ∷
+    10 ∷ 10 ∷ 10 ∷ 10 ∷ 10 ∷ 10 ∷ 10 ∷ 10 ∷ 10 ∷ 10 ∷ 10 ∷ 10 ∷ 10 ∷ 10 ∷ 10 ∷ 10 ∷ 10 ∷ 10 ∷ 10 ∷ 10 ∷ 10 ∷ 10 ∷ 10 ∷ 10 ∷ 10 ∷ 10 ∷ 10 ∷ 10 ∷ 10 ∷ 10 ∷ 10 ∷ 10 ∷
+    10 ∷ 10 ∷ 10 ∷ 10 ∷ 10 ∷ 10 ∷ 10 ∷ 10 ∷ 10 ∷ 10 ∷ 10 ∷ 10 ∷ 10 ∷ 10 ∷ 10 ∷ 10 ∷ 10 ∷ 10 ∷ 10 ∷ 10 ∷ 10 ∷ 10 ∷ 10 ∷ 10 ∷ 10 ∷ 10 ∷ 10 ∷ 10 ∷ 10 ∷ 10 ∷ 10 ∷ 10 ∷ []
+
+right : ℕ → ℕ → Bool
+right b x = eqb x (classNumber (classOf b))
+
+all-right : T (every right 0 classTable)
+unfolding classTable right classOf classNumber oneOf
+all-right = tt
+
+-- its rule, proved once over the whole table
+pub class-table : ClassTable classTable
+unfolding classTable right
+class-table = record { each = λ b h. eqb→eq (getD classTable b 0) (classNumber (classOf b)) (at right classTable all-right b h) }
+
+-- ---- classes by their numbers
 
 -- the class of a number
 unfoldable pub classAt : ℕ → Class
@@ -44,35 +73,6 @@ class-again other = refl
 -- the class of a byte whose class has this number
 pub class-by : (b n : ℕ) → n ≡ classNumber (classOf b) → classOf b ≡ classAt n
 class-by b n e = sym (class-again (classOf b)) ∙ ap classAt (sym e)
-
--- the class 5 has one byte
-oneQuote : ℕ → ℕ → Bool
-oneQuote b x = cond (eqb (classNumber (classOf b)) 5) (eqb b 34) true
-
-all-quotes : T (every oneQuote 0 (replicate 256 0))
-unfolding oneQuote classOf classNumber oneOf
-all-quotes = tt
-
-pub quote-number : (b : ℕ) → b < 256 → classNumber (classOf b) ≡ 5 → b ≡ 34
-unfolding oneQuote
-quote-number b h e =
-    let l = length-replicate {A = ℕ} 256 0 in
-    eqb→eq b 34 (subst (λ (n : ℕ). T (cond (eqb n 5) (eqb b 34) true)) e (at oneQuote (replicate 256 0) all-quotes b (omega arith)))
-
--- the bytes from 97 to 122 are of the class 3
-smallHere : ℕ → ℕ → Bool
-smallHere b x = cond (within 97 122 b) (eqb (classNumber (classOf b)) 3) true
-
-all-small : T (every smallHere 0 (replicate 256 0))
-unfolding smallHere classOf classNumber oneOf
-all-small = tt
-
-pub small-number : (b : ℕ) → 97 ≤ b → b ≤ 122 → 3 ≡ classNumber (classOf b)
-unfolding smallHere
-small-number b h k =
-    let l = length-replicate {A = ℕ} 256 0 in
-    let t : T (cond (leb 97 b && leb b 122) (eqb (classNumber (classOf b)) 3) true) = at smallHere (replicate 256 0) all-small b (omega arith) in
-    sym (eqb→eq (classNumber (classOf b)) 3 (rw (le-leb 97 b h, le-leb b 122 k) at t))
 
 -- ---- tests that name bytes
 
@@ -124,3 +124,55 @@ module _ (b : ℕ) (high : 128 ≤ b) where
       (λ _. cond-both Is (is "/" b) (λ t. absurd (not-byte 47 (omega arith) t))
       (λ _. cond-both Is (is "+" b) (λ t. absurd (not-byte 43 (omega arith) t))
       (λ _. refl))))))))))
+
+-- ---- bytes by the numbers of their classes: a test at each of the 256 bytes, and `class-high` above them
+
+every-byte : (f : ℕ → Bool) → T (every (λ b x. f b) 0 (replicate 256 0)) → (b : ℕ) → b < 256 → T (f b)
+every-byte f t b h = let l = length-replicate {A = ℕ} 256 0 in at (λ b x. f b) (replicate 256 0) t b (omega arith)
+
+-- the class 5 has one byte
+oneQuote : ℕ → Bool
+oneQuote b = cond (eqb (classNumber (classOf b)) 5) (eqb b 34) true
+
+all-quotes : T (every (λ b x. oneQuote b) 0 (replicate 256 0))
+unfolding oneQuote classOf classNumber oneOf
+all-quotes = tt
+
+pub quote-number : (b : ℕ) → classNumber (classOf b) ≡ 5 → b ≡ 34
+unfolding oneQuote classNumber
+quote-number b e = below (ltb b 256) refl
+  where
+    below : (t : Bool) → ltb b 256 ≡ t → b ≡ 34
+    below true q =
+        let h = ltb-true b 256 q in
+        eqb→eq b 34 (subst (λ (n : ℕ). T (cond (eqb n 5) (eqb b 34) true)) e (every-byte oneQuote all-quotes b h))
+    below false q =
+        let h = ltb-false b 256 q in
+        let z : _≡_ {A = ℕ} 10 5 = ap classNumber (sym (class-high b (omega arith))) ∙ e in
+        absurd (omega arith)
+
+-- the classes of letters, digits and joiners, "1 to 4"
+unfoldable pub isWordClass : ℕ → Bool
+isWordClass n = within 1 4 n
+
+agrees : Bool → Bool → Bool
+agrees a b = cond a b (not b)
+
+agreed : (a b : Bool) → T (agrees a b) → a ≡ b
+unfolding agrees
+agreed true true t = refl
+agreed true false t = absurd t
+agreed false true t = absurd t
+agreed false false t = refl
+
+wordAgrees : ℕ → Bool
+wordAgrees b = agrees (isWordByte b) (isWordClass (classNumber (classOf b)))
+
+all-words : T (every (λ b x. wordAgrees b) 0 (replicate 256 0))
+unfolding wordAgrees agrees isWordByte isLetterOrDigit isWordClass classOf classNumber oneOf
+all-words = tt
+
+-- the bytes of words, by their classes
+pub word-class : (b : ℕ) → b < 256 → isWordByte b ≡ isWordClass (classNumber (classOf b))
+unfolding wordAgrees
+word-class b h = agreed (isWordByte b) (isWordClass (classNumber (classOf b))) (every-byte wordAgrees all-words b h)

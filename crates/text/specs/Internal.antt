@@ -1,9 +1,12 @@
 -- What is cited only by the contracts of private functions, or of functions that are public for the crates above alone. Nothing here has
 -- to be believed: the other public contracts don't name it.
 -- Assumes nothing.
-use Prim.Native.Nat.{ℕ, _+_}
+use mathlib.Core.Path.{_≡_}
+use Prim.Native.Nat.{ℕ, _+_, _<_}
 use mathlib.Core.Bool.{Bool, true, false, cond}
 use mathlib.Core.List.{List, [], _∷_}
+use lib.ListN.{getD}
+use Rattle.text.specs.Bytes.{classOf, classNumber}
 use Rattle.text.specs.declared.utf8.Utf8.{Utf8}
 use Rattle.text.specs.declared.utf8.Utf8.the-variants.{Whole, Part, Broken}
 use Rattle.text.specs.Utf8.{utf8Step, wholeFront}
@@ -24,3 +27,7 @@ isPart (Broken n) = false
 unfoldable pub characterEnd : Utf8 → List ℕ → ℕ
 characterEnd u [] = wholeFront u
 characterEnd u (b ∷ s) = cond (isPart u) (characterEnd (utf8Step u b) s) (wholeFront u)
+
+-- the table holds the class of each of the 256 bytes, by its number
+pub record ClassTable (t : List ℕ) : Type 0 where
+  pub each : (b : ℕ) → b < 256 → getD t b 0 ≡ classNumber (classOf b)

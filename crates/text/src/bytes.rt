@@ -2,6 +2,7 @@
 ghost use mathlib.Core.Path.{_≡_};
 ghost use lib.ListN.{getD};
 ghost use Rattle.text.specs.Bytes.{classOf, classNumber, digitValue, sameBytes};
+ghost use Rattle.text.specs.Internal.{ClassTable};
 
 // The byte at a place; 0 past the end.
 pub fn byte_at(s: &[u8], i: usize) -> u8
@@ -37,7 +38,7 @@ pub const PLUS: u8 = 9;
 pub const OTHER: u8 = 10;
 
 // The class of each of the 256 bytes.
-pub const CLASS: [u8; 256] = [
+const CLASS: [u8; 256] = [
     10,
     10,
     10,
@@ -296,11 +297,19 @@ pub const CLASS: [u8; 256] = [
     10,
 ];
 
-// The number of a byte's class.
-pub fn class_of(b: u8) -> u8
+// The table. This is a copy, so a caller makes it once and lends it.
+pub fn classes() -> [u8; 256]
+    ensures { λ r. ⌜ ClassTable r ⌝ }
+{
+    CLASS
+}
+
+// The number of a byte's class, from the table that is lent.
+pub fn class_of(classes: &[u8; 256], b: u8) -> u8
+    requires { ⌜ ClassTable (now classes) ⌝ }
     ensures { λ r. ⌜ r ≡ classNumber (classOf b) ⌝ }
 {
-    CLASS[b as usize]
+    classes[b as usize]
 }
 
 // What is answered for a byte that is no digit: above every digit's value, as bases go up to 16.

@@ -2,16 +2,16 @@ use native.Mathlib.Omega.{arith}
 use mathlib.Core.Path.{sym, ap, _∙_}
 use lib.ListN.{length}
 use Prim.Native.Nat.{_+_, _<_}
-use Rattle.lexer.specs.Internal.{passes}
-use Rattle.lexer.proofs.PlaceLaws.{there, line-found, block-found, slash-found}
+use Rattle.text.proofs.ListLaws.{getD-inside}
+use Rattle.lexer.proofs.PlaceLaws.{line-found, block-found, slash-found}
 use borrow.Author.Needs.{needs}
 use Rattle.lexer.proofs.item.comment_item.Statement.{statement}
 use Rattle.lexer.proofs.item.comment_item.Tie as tie
 use Rattle.lexer.proofs.item.comment_item.Reads as reads
 use Rattle.lexer.proofs.item.comment_item.Lts as lts
 use Rattle.lexer.proofs.item.block_item.Reads as block-item-reads
-use Rattle.lexer.proofs.item.byte_at.Reads as byte-at-reads
-use Rattle.lexer.proofs.runs.run_end.Reads as run-end-reads
+use Rattle.lexer.proofs.runs.line_end.Reads as line-end-reads
+use Rattle.text.proofs.bytes.byte_at.Reads as byte-at-reads
 
 add-byte-at : tie.Need-add-byte-at
 add-byte-at c = omega arith
@@ -19,18 +19,17 @@ add-byte-at c = omega arith
 byte-at-requires : tie.Need-byte-at-requires
 byte-at-requires c κs = search needs
 
-add-run-end : tie.Need-add-run-end
-add-run-end c = omega arith
+add-line-end : tie.Need-add-line-end
+add-line-end c = let h = getD-inside (c .before .before .before .args .text .now) (c .before .before .before .args .at + 1) 47 (sym (c .before .byte-at .ensures) ∙ c .if1 .taken) (omega arith) in omega arith
 
-run-end-requires : tie.Need-run-end-requires
-run-end-requires c κs = let h = there (c .before .before .before .args .text .now) (c .before .before .before .args .at + 1) 47 (sym (c .before .byte-at .ensures) ∙ c .if1 .taken) (omega arith) in omega arith
+line-end-requires : tie.Need-line-end-requires
+line-end-requires c κs = search needs
 
 returns : tie.Need-returns
-unfolding passes
-returns c = line-found (c .before .before .before .before .args .text .now) (c .before .before .before .before .args .at) _ (sym (c .before .before .byte-at .ensures) ∙ c .before .if1 .taken) (c .run-end .ensures)
+returns c = line-found (c .before .before .before .before .args .text .now) (c .before .before .before .before .args .at) _ (sym (c .before .before .byte-at .ensures) ∙ c .before .if1 .taken) (c .line-end .ensures)
 
 block-item-requires : tie.Need-block-item-requires
-block-item-requires c κs = let h = there (c .before .before .before .before .args .text .now) (c .before .before .before .before .args .at + 1) 42 (sym (c .before .before .byte-at .ensures) ∙ c .if2 .taken) (omega arith) in omega arith
+block-item-requires c κs = let h = getD-inside (c .before .before .before .before .args .text .now) (c .before .before .before .before .args .at + 1) 42 (sym (c .before .before .byte-at .ensures) ∙ c .if2 .taken) (omega arith) in omega arith
 
 returns-2 : tie.Need-returns-2
 returns-2 c = c .block-item .ensures ∙ sym (block-found (c .before .before .before .before .before .args .text .now) (c .before .before .before .before .before .args .at) (λ e. c .before .before .if1 .left (c .before .before .before .byte-at .ensures ∙ e)) (sym (c .before .before .before .byte-at .ensures) ∙ c .before .if2 .taken))
@@ -44,8 +43,8 @@ comment-item-spec =
     (tie.spec
     add-byte-at
     byte-at-requires
-    add-run-end
-    run-end-requires
+    add-line-end
+    line-end-requires
     returns
     block-item-requires
     returns-2

@@ -8,6 +8,12 @@ use Rattle.lexer.proofs.item.content_item.Reads as reads
 use Rattle.lexer.proofs.item.content_item.Lts as lts
 use Rattle.literals.proofs.content.measure_content.Reads as measure-content-reads
 
+add-end : tie.Need-add-end
+add-end c = omega arith
+
+add-end-2 : tie.Need-add-end-2
+add-end-2 c = omega arith
+
 sub-measure-content : tie.Need-sub-measure-content
 sub-measure-content c = omega arith
 
@@ -24,21 +30,23 @@ enum-known-n : tie.Need-enum-known-n
 enum-known-n c = search needs
 
 returns : tie.Need-returns
-returns c = text-found (c .before .before .before .before .before .before .before .args .istext) (c .before .before .before .before .before .before .before .args .end) _ _ (c .if1 .taken) (sym (c .before .before .before .before .measure-content .ensures) ∙ c .before .before .n .given .1)
+returns c = text-found (c .before .before .before .before .before .before .before .before .args .head .«is_text») _ _ _ (c .if1 .taken) (sym (c .before .before .before .before .measure-content .ensures) ∙ c .before .before .n .given .1)
 
 enum-told : tie.Need-enum-told
 enum-told c = search needs
 
 returns-2 : tie.Need-returns-2
-returns-2 c = bytes-found (c .before .before .before .before .before .before .before .args .istext) (c .before .before .before .before .before .before .before .args .end) _ _ (c .if1 .left) (sym (c .before .before .before .before .measure-content .ensures) ∙ c .before .before .n .given .1)
+returns-2 c = bytes-found (c .before .before .before .before .before .before .before .before .args .head .«is_text») _ _ _ (c .if1 .left) (sym (c .before .before .before .before .measure-content .ensures) ∙ c .before .before .n .given .1)
 
 returns-3 : tie.Need-returns-3
-returns-3 c = content-refused (c .before .before .before .before .before .args .istext) (c .before .before .before .before .before .args .end) _ (sym (c .before .before .measure-content .ensures) ∙ c .enum-told .given .1)
+returns-3 c = content-refused (c .before .before .before .before .before .before .args .head .«is_text») _ _ (sym (c .before .before .measure-content .ensures) ∙ c .enum-told .given .1)
 
 pub content-item-spec : {M : Type 1} → statement M
 content-item-spec =
     tie.close
     (tie.spec
+    add-end
+    add-end-2
     sub-measure-content
     part-measure-content-start
     part-measure-content-end

@@ -10,46 +10,50 @@ use Rattle.lexer.proofs.item.next_token.Statement.{statement}
 use Rattle.lexer.proofs.item.next_token.Tie as tie
 use Rattle.lexer.proofs.item.next_token.Reads as reads
 use Rattle.lexer.proofs.item.next_token.Lts as lts
-use Rattle.lexer.proofs.item.item_at.Reads as item-at-reads
+use Rattle.lexer.proofs.item.item_by.Reads as item-by-reads
+use Rattle.text.proofs.bytes.classes.Reads as classes-reads
 
 abbrev Inv-loop : tie.InvT-loop
-Inv-loop sw text at i₀ i = tokensFrom sw text at ≡ tokensFrom sw text i
+Inv-loop sw text at table i₀ i = tokensFrom sw text at ≡ tokensFrom sw text i
 
 abbrev μ-loop : tie.MeasureT-loop
-μ-loop sw text at i₀ i = length text - i
+μ-loop sw text at table i₀ i = length text - i
+
+classes-requires : tie.Need-classes-requires Inv-loop μ-loop
+classes-requires c κs = search needs
 
 loop-holds : tie.Need-loop-holds Inv-loop μ-loop
 loop-holds c = refl
 
-item-at-requires : tie.Need-item-at-requires Inv-loop μ-loop
-item-at-requires c κs = search needs
+item-by-requires : tie.Need-item-by-requires Inv-loop μ-loop
+item-by-requires c κs = c .before .before .classes .ensures
 
 enum-known-end : tie.Need-enum-known-end Inv-loop μ-loop
 enum-known-end c = search needs
 
 loop-less : tie.Need-loop-less Inv-loop μ-loop
-loop-less c = let g = after-gap (c .before .before .before .before .before .before .args .sw) (c .before .before .before .before .before .before .args .text .now) (c .before .before .before .before .loop .i) (c .before .end .given .0 .0) (sym (c .before .before .before .item-at .ensures) ∙ c .before .end .given .1) in omega arith
+loop-less c = let g = after-gap (c .before .before .before .before .before .before .before .before .args .sw) (c .before .before .before .before .before .before .before .before .args .text .now) (c .before .before .before .before .before .loop .i) (c .before .end .given .0 .0) (sym (c .before .before .before .item-by .ensures) ∙ c .before .end .given .1) in omega arith
 
 loop-again : tie.Need-loop-again Inv-loop μ-loop
-loop-again c = let g = after-gap (c .before .before .before .before .before .before .args .sw) (c .before .before .before .before .before .before .args .text .now) (c .before .before .before .before .loop .i) (c .before .end .given .0 .0) (sym (c .before .before .before .item-at .ensures) ∙ c .before .end .given .1) in c .before .before .before .before .loop .inv ∙ g .0
+loop-again c = let g = after-gap (c .before .before .before .before .before .before .before .before .args .sw) (c .before .before .before .before .before .before .before .before .args .text .now) (c .before .before .before .before .before .loop .i) (c .before .end .given .0 .0) (sym (c .before .before .before .item-by .ensures) ∙ c .before .end .given .1) in c .before .before .before .before .before .loop .inv ∙ g .0
 
 enum-known-kind : tie.Need-enum-known-kind Inv-loop μ-loop
 enum-known-kind c = search needs
 
 returns : tie.Need-returns Inv-loop μ-loop
-returns c = sym (ap firstOf (c .before .before .before .before .loop .inv) ∙ at-token (c .before .before .before .before .before .before .args .sw) (c .before .before .before .before .before .before .args .text .now) (c .before .before .before .before .loop .i) _ _ (sym (c .before .before .before .item-at .ensures) ∙ c .before .kind .given .1))
+returns c = sym (ap firstOf (c .before .before .before .before .before .loop .inv) ∙ at-token (c .before .before .before .before .before .before .before .before .args .sw) (c .before .before .before .before .before .before .before .before .args .text .now) (c .before .before .before .before .before .loop .i) _ _ (sym (c .before .before .before .item-by .ensures) ∙ c .before .kind .given .1))
 
 enum-known-number : tie.Need-enum-known-number Inv-loop μ-loop
 enum-known-number c = search needs
 
 returns-2 : tie.Need-returns-2 Inv-loop μ-loop
-returns-2 c = sym (ap firstOf (c .before .before .before .before .loop .inv) ∙ at-fault (c .before .before .before .before .before .before .args .sw) (c .before .before .before .before .before .before .args .text .now) (c .before .before .before .before .loop .i) _ (sym (c .before .before .before .item-at .ensures) ∙ c .before .number .given .1))
+returns-2 c = sym (ap firstOf (c .before .before .before .before .before .loop .inv) ∙ at-fault (c .before .before .before .before .before .before .before .before .args .sw) (c .before .before .before .before .before .before .before .before .args .text .now) (c .before .before .before .before .before .loop .i) _ (sym (c .before .before .before .item-by .ensures) ∙ c .before .number .given .1))
 
 enum-told : tie.Need-enum-told Inv-loop μ-loop
 enum-told c = search needs
 
 returns-3 : tie.Need-returns-3 Inv-loop μ-loop
-returns-3 c = sym (ap firstOf (c .before .before .before .loop .inv) ∙ at-end (c .before .before .before .before .before .args .sw) (c .before .before .before .before .before .args .text .now) (c .before .before .before .loop .i) (sym (c .before .before .item-at .ensures) ∙ c .enum-told .given .1))
+returns-3 c = sym (ap firstOf (c .before .before .before .before .loop .inv) ∙ at-end (c .before .before .before .before .before .before .before .args .sw) (c .before .before .before .before .before .before .before .args .text .now) (c .before .before .before .before .loop .i) (sym (c .before .before .item-by .ensures) ∙ c .enum-told .given .1))
 
 pub next-token-spec : {M : Type 1} → statement M
 next-token-spec =
@@ -57,8 +61,9 @@ next-token-spec =
     (tie.spec
     Inv-loop
     μ-loop
+    classes-requires
     loop-holds
-    item-at-requires
+    item-by-requires
     enum-known-end
     loop-less
     loop-again

@@ -11,38 +11,35 @@ use Rattle.lexer.specs.declared.item.TokenKind.the-variants as K
 use Rattle.lexer.specs.declared.item.Found.the-variants as F
 use Rattle.lexer.specs.Token.{meantItem}
 use Rattle.lexer.specs.Answer.{found, kindOf}
-use Rattle.lexer.specs.Internal.{passes}
 use Rattle.lexer.proofs.PlaceLaws.{run-within, number-found}
 use borrow.Author.Needs.{needs}
 use Rattle.lexer.proofs.item.number_item.Statement.{statement}
 use Rattle.lexer.proofs.item.number_item.Tie as tie
 use Rattle.lexer.proofs.item.number_item.Reads as reads
 use Rattle.lexer.proofs.item.number_item.Lts as lts
-use Rattle.lexer.proofs.runs.run_end.Reads as run-end-reads
+use Rattle.lexer.proofs.runs.number_end.Reads as number-end-reads
 use Rattle.literals.proofs.number.number_of.Reads as number-of-reads
 
-add-run-end : tie.Need-add-run-end
-add-run-end c = omega arith
+add-number-end : tie.Need-add-number-end
+add-number-end c = omega arith
 
-run-end-requires : tie.Need-run-end-requires
-run-end-requires c κs = search needs
+number-end-requires : tie.Need-number-end-requires
+number-end-requires c κs = c .before .pre .0
 
 sub-number-of : tie.Need-sub-number-of
-unfolding passes
 sub-number-of c = let w = run-within isNumberByte (c .before .before .args .text .now) (c .before .before .args .at + 1) (omega arith) in omega arith
 
 part-number-of-start : tie.Need-part-number-of-start
 part-number-of-start c = omega arith
 
 part-number-of-end : tie.Need-part-number-of-end
-unfolding passes
-part-number-of-end c = let w = run-within isNumberByte (c .before .before .args .text .now) (c .before .before .args .at + 1) (omega arith) in let e = c .run-end .ensures in omega arith
+part-number-of-end c = let w = run-within isNumberByte (c .before .before .args .text .now) (c .before .before .args .at + 1) (omega arith) in let e = c .number-end .ensures in omega arith
 
 number-of-requires : tie.Need-number-of-requires
 number-of-requires c κs = search needs
 
-enum-known-z : tie.Need-enum-known-z
-enum-known-z c = search needs
+enum-known-value : tie.Need-enum-known-value
+enum-known-value c = search needs
 
 enum-known-minus : tie.Need-enum-known-minus
 enum-known-minus c = search needs
@@ -54,34 +51,34 @@ enum-told-2 : tie.Need-enum-told-2
 enum-told-2 c = search needs
 
 returns : tie.Need-returns
-unfolding passes found meantItem kindOf
-returns c = ap (λ (z : ℤ). F.Token (K.Integer z) (c .before .before .before .before .before .run-end .result)) (toZ-ofZ {w = w64} {z = c .before .z .given .0 .0} (record { sfits = c .known-told .given .0 .1 }))
-    ∙ ap (F.Token (K.Integer (c .before .z .given .0 .0))) (omega arith) ∙ sym (number-found (c .before .before .before .before .before .before .before .args .text .now) (c .before .before .before .before .before .before .before .args .at) (c .before .before .before .before .before .run-end .result) (omega arith) (N.Integer (c .before .z .given .0 .0)) (c .before .before .before .before .before .run-end .ensures) (sym (c .before .before .before .number-of .ensures) ∙ c .before .z .given .1))
+unfolding found meantItem kindOf
+returns c = ap (λ (z : ℤ). F.Token (K.Integer z) (c .before .before .before .before .before .number-end .result)) (toZ-ofZ {w = w64} {z = c .before .value .given .0 .0} (record { sfits = c .known-told .given .0 .1 }))
+    ∙ ap (F.Token (K.Integer (c .before .value .given .0 .0))) (omega arith) ∙ sym (number-found (c .before .before .before .before .before .before .before .args .text .now) (c .before .before .before .before .before .before .before .args .at) (c .before .before .before .before .before .number-end .result) (omega arith) (N.Integer (c .before .value .given .0 .0)) (c .before .before .before .before .before .number-end .ensures) (sym (c .before .before .before .number-of .ensures) ∙ c .before .value .given .1))
 
 returns-2 : tie.Need-returns-2
-unfolding passes found meantItem kindOf
-returns-2 c = ap (λ (z : ℤ). F.Token (K.Decimal (c .before .minus .given .0 .0) (c .before .minus .given .0 .1 .0) z) (c .before .before .before .before .before .run-end .result)) (toZ-ofZ {w = w64} {z = c .before .minus .given .0 .1 .1 .0} (record { sfits = c .known-told2 .given .1 .1 .0 .1 }))
-    ∙ ap (F.Token (K.Decimal (c .before .minus .given .0 .0) (c .before .minus .given .0 .1 .0) (c .before .minus .given .0 .1 .1 .0))) (omega arith) ∙ sym (number-found (c .before .before .before .before .before .before .before .args .text .now) (c .before .before .before .before .before .before .before .args .at) (c .before .before .before .before .before .run-end .result) (omega arith) (N.Decimal (c .before .minus .given .0 .0) (c .before .minus .given .0 .1 .0) (c .before .minus .given .0 .1 .1 .0)) (c .before .before .before .before .before .run-end .ensures) (sym (c .before .before .before .number-of .ensures) ∙ c .before .minus .given .1))
+unfolding found meantItem kindOf
+returns-2 c = ap (λ (z : ℤ). F.Token (K.Decimal (c .before .minus .given .0 .0) (c .before .minus .given .0 .1 .0) z) (c .before .before .before .before .before .number-end .result)) (toZ-ofZ {w = w64} {z = c .before .minus .given .0 .1 .1 .0} (record { sfits = c .known-told2 .given .1 .1 .0 .1 }))
+    ∙ ap (F.Token (K.Decimal (c .before .minus .given .0 .0) (c .before .minus .given .0 .1 .0) (c .before .minus .given .0 .1 .1 .0))) (omega arith) ∙ sym (number-found (c .before .before .before .before .before .before .before .args .text .now) (c .before .before .before .before .before .before .before .args .at) (c .before .before .before .before .before .number-end .result) (omega arith) (N.Decimal (c .before .minus .given .0 .0) (c .before .minus .given .0 .1 .0) (c .before .minus .given .0 .1 .1 .0)) (c .before .before .before .before .before .number-end .ensures) (sym (c .before .before .before .number-of .ensures) ∙ c .before .minus .given .1))
 
 returns-3 : tie.Need-returns-3
-unfolding passes found meantItem kindOf
-returns-3 c = sym (number-found (c .before .before .before .before .before .before .args .text .now) (c .before .before .before .before .before .before .args .at) (c .before .before .before .before .run-end .result) (omega arith) N.Malformed (c .before .before .before .before .run-end .ensures) (sym (c .before .before .number-of .ensures) ∙ c .enum-told .given .1))
+unfolding found meantItem kindOf
+returns-3 c = sym (number-found (c .before .before .before .before .before .before .args .text .now) (c .before .before .before .before .before .before .args .at) (c .before .before .before .before .number-end .result) (omega arith) N.Malformed (c .before .before .before .before .number-end .ensures) (sym (c .before .before .number-of .ensures) ∙ c .enum-told .given .1))
 
 returns-4 : tie.Need-returns-4
-unfolding passes found meantItem kindOf
-returns-4 c = sym (number-found (c .before .before .before .before .before .before .args .text .now) (c .before .before .before .before .before .before .args .at) (c .before .before .before .before .run-end .result) (omega arith) N.TooWide (c .before .before .before .before .run-end .ensures) (sym (c .before .before .number-of .ensures) ∙ c .enum-told2 .given .1))
+unfolding found meantItem kindOf
+returns-4 c = sym (number-found (c .before .before .before .before .before .before .args .text .now) (c .before .before .before .before .before .before .args .at) (c .before .before .before .before .number-end .result) (omega arith) N.TooWide (c .before .before .before .before .number-end .ensures) (sym (c .before .before .number-of .ensures) ∙ c .enum-told2 .given .1))
 
 pub number-item-spec : {M : Type 1} → statement M
 number-item-spec =
     tie.close
     (tie.spec
-    add-run-end
-    run-end-requires
+    add-number-end
+    number-end-requires
     sub-number-of
     part-number-of-start
     part-number-of-end
     number-of-requires
-    enum-known-z
+    enum-known-value
     enum-known-minus
     enum-told
     enum-told-2

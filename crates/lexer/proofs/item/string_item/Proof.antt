@@ -4,7 +4,6 @@ use lib.ListN.{length, drop, length-drop}
 use Prim.Native.Nat.{ℕ, _+_, _-_, suc, _≤_}
 use mathlib.Core.Bool.{Bool}
 use Rattle.lexer.specs.declared.closing.Closing.{Closing}
-use Rattle.lexer.specs.declared.closing.Closing.the-variants as C
 use Rattle.lexer.specs.Closing.{closing}
 use Rattle.lexer.specs.Token.{hasEscapes}
 use Rattle.lexer.proofs.ClosingLaws.{closed-within}
@@ -22,11 +21,8 @@ use Rattle.lexer.proofs.item.has_escapes.Reads as has-escapes-reads
 told : (e f : Bool) (k : ℕ) (l : _) (r c : Closing) → r ≡ closing e k l → e ≡ f → r ≡ c → closing f k l ≡ c
 told e f k l r c p q z = ap (λ (x : Bool). closing x k l) (sym q) ∙ sym p ∙ z
 
-add-from : tie.Need-add-from
-add-from c = omega arith
-
-add-from-2 : tie.Need-add-from-2
-add-from-2 c = omega arith
+add-start : tie.Need-add-start
+add-start c = omega arith
 
 has-escapes-requires : tie.Need-has-escapes-requires
 has-escapes-requires c κs = search needs
@@ -46,52 +42,50 @@ enum-told-3 c = search needs
 enum-known-n : tie.Need-enum-known-n
 enum-known-n c = search needs
 
-sub-content-item : tie.Need-sub-content-item
-sub-content-item c = let w = closed-within (hasEscapes (c .before .before .before .before .before .before .args .body)) (c .before .before .before .before .before .before .args .k) (drop (c .before .before .before .before .before .before .args .at + 1 + c .before .before .before .before .before .before .args .head) (c .before .before .before .before .before .before .args .text .now)) (c .before .n .given .0 .0) (told _ _ _ _ _ _ (c .before .before .before .find-closing .ensures) (c .before .before .before .before .has-escapes .ensures) (c .before .n .given .1)) in omega arith
+sub-t12 : tie.Need-sub-t12
+sub-t12 c = let w = closed-within (hasEscapes (c .before .before .before .before .before .before .before .args .head .body)) (c .before .before .before .before .before .before .before .args .head .hashes) (drop (c .before .before .before .before .before .before .before .args .at + c .before .before .before .before .before .before .before .args .head .before) (c .before .before .before .before .before .before .before .args .text .now)) (c .before .n .given .0 .0) (told _ _ _ _ _ _ (c .before .before .before .find-closing .ensures) (c .before .before .before .before .has-escapes .ensures) (c .before .n .given .1)) in
+    let d = length-drop (c .before .before .before .before .before .before .before .args .at + c .before .before .before .before .before .before .before .args .head .before) (c .before .before .before .before .before .before .before .args .text .now) in omega arith
 
-sub-content-item-2 : tie.Need-sub-content-item-2
-sub-content-item-2 c = let w = closed-within (hasEscapes (c .before .before .before .before .before .before .args .body)) (c .before .before .before .before .before .before .args .k) (drop (c .before .before .before .before .before .before .args .at + 1 + c .before .before .before .before .before .before .args .head) (c .before .before .before .before .before .before .args .text .now)) (c .before .n .given .0 .0) (told _ _ _ _ _ _ (c .before .before .before .find-closing .ensures) (c .before .before .before .before .has-escapes .ensures) (c .before .n .given .1)) in omega arith
+sub-t13 : tie.Need-sub-t13
+sub-t13 c = let w = closed-within (hasEscapes (c .before .before .before .before .before .before .before .before .args .head .body)) (c .before .before .before .before .before .before .before .before .args .head .hashes) (drop (c .before .before .before .before .before .before .before .before .args .at + c .before .before .before .before .before .before .before .before .args .head .before) (c .before .before .before .before .before .before .before .before .args .text .now)) (c .before .before .n .given .0 .0) (told _ _ _ _ _ _ (c .before .before .before .before .find-closing .ensures) (c .before .before .before .before .before .has-escapes .ensures) (c .before .before .n .given .1)) in
+    let d = length-drop (c .before .before .before .before .before .before .before .before .args .at + c .before .before .before .before .before .before .before .before .args .head .before) (c .before .before .before .before .before .before .before .before .args .text .now) in omega arith
 
-add-content-item : tie.Need-add-content-item
-add-content-item c = let w = closed-within (hasEscapes (c .before .before .before .before .before .before .args .body)) (c .before .before .before .before .before .before .args .k) (drop (c .before .before .before .before .before .before .args .at + 1 + c .before .before .before .before .before .before .args .head) (c .before .before .before .before .before .before .args .text .now)) (c .before .n .given .0 .0) (told _ _ _ _ _ _ (c .before .before .before .find-closing .ensures) (c .before .before .before .before .has-escapes .ensures) (c .before .n .given .1)) in
-    let d = length-drop (c .before .before .before .before .before .before .args .at + 1 + c .before .before .before .before .before .before .args .head) (c .before .before .before .before .before .before .args .text .now) in omega arith
-
-add-content-item-2 : tie.Need-add-content-item-2
-add-content-item-2 c = let w = closed-within (hasEscapes (c .before .before .before .before .before .before .args .body)) (c .before .before .before .before .before .before .args .k) (drop (c .before .before .before .before .before .before .args .at + 1 + c .before .before .before .before .before .before .args .head) (c .before .before .before .before .before .before .args .text .now)) (c .before .n .given .0 .0) (told _ _ _ _ _ _ (c .before .before .before .find-closing .ensures) (c .before .before .before .before .has-escapes .ensures) (c .before .n .given .1)) in
-    let d = length-drop (c .before .before .before .before .before .before .args .at + 1 + c .before .before .before .before .before .before .args .head) (c .before .before .before .before .before .before .args .text .now) in omega arith
+add-t14 : tie.Need-add-t14
+add-t14 c = let w = closed-within (hasEscapes (c .before .before .before .before .before .before .before .before .args .head .body)) (c .before .before .before .before .before .before .before .before .args .head .hashes) (drop (c .before .before .before .before .before .before .before .before .args .at + c .before .before .before .before .before .before .before .before .args .head .before) (c .before .before .before .before .before .before .before .before .args .text .now)) (c .before .before .n .given .0 .0) (told _ _ _ _ _ _ (c .before .before .before .before .find-closing .ensures) (c .before .before .before .before .before .has-escapes .ensures) (c .before .before .n .given .1)) in
+    let d = length-drop (c .before .before .before .before .before .before .before .before .args .at + c .before .before .before .before .before .before .before .before .args .head .before) (c .before .before .before .before .before .before .before .before .args .text .now) in omega arith
 
 content-item-requires : tie.Need-content-item-requires
-content-item-requires c κs = let w = closed-within (hasEscapes (c .before .before .before .before .before .before .args .body)) (c .before .before .before .before .before .before .args .k) (drop (c .before .before .before .before .before .before .args .at + 1 + c .before .before .before .before .before .before .args .head) (c .before .before .before .before .before .before .args .text .now)) (c .before .n .given .0 .0) (told _ _ _ _ _ _ (c .before .before .before .find-closing .ensures) (c .before .before .before .before .has-escapes .ensures) (c .before .n .given .1)) in
-    let d = length-drop (c .before .before .before .before .before .before .args .at + 1 + c .before .before .before .before .before .before .args .head) (c .before .before .before .before .before .before .args .text .now) in (omega arith, omega arith)
+content-item-requires c κs = let w = closed-within (hasEscapes (c .before .before .before .before .before .before .before .before .args .head .body)) (c .before .before .before .before .before .before .before .before .args .head .hashes) (drop (c .before .before .before .before .before .before .before .before .args .at + c .before .before .before .before .before .before .before .before .args .head .before) (c .before .before .before .before .before .before .before .before .args .text .now)) (c .before .before .n .given .0 .0) (told _ _ _ _ _ _ (c .before .before .before .before .find-closing .ensures) (c .before .before .before .before .before .has-escapes .ensures) (c .before .before .n .given .1)) in
+    let d = length-drop (c .before .before .before .before .before .before .before .before .args .at + c .before .before .before .before .before .before .before .before .args .head .before) (c .before .before .before .before .before .before .before .before .args .text .now) in (omega arith, omega arith)
 
 returns : tie.Need-returns
-returns c = inside-found (c .before .before .before .before .before .args .sw) (c .before .before .before .before .before .args .istext) (c .before .before .before .before .before .args .body) (c .before .before .before .before .before .args .at) (c .before .before .before .before .before .args .head) (c .before .before .before .before .before .args .k) _ _ (told _ _ _ _ _ _ (c .before .before .find-closing .ensures) (c .before .before .before .has-escapes .ensures) (c .enum-told .given .1))
+returns c = inside-found (c .before .before .before .before .before .before .args .sw) (c .before .before .before .before .before .before .args .head .«is_text») (c .before .before .before .before .before .before .args .head .body) (c .before .before .before .before .before .before .args .at) (c .before .before .before .before .before .before .args .head .before - 1) (c .before .before .before .before .before .before .args .head .hashes) _ _ (told _ _ _ _ _ _ (c .before .before .find-closing .ensures) (c .before .before .before .has-escapes .ensures) (c .enum-told .given .1))
 
 returns-2 : tie.Need-returns-2
-returns-2 c = escaped-found (c .before .before .before .before .before .args .sw) (c .before .before .before .before .before .args .istext) (c .before .before .before .before .before .args .body) (c .before .before .before .before .before .args .at) (c .before .before .before .before .before .args .head) (c .before .before .before .before .before .args .k) _ _ (told _ _ _ _ _ _ (c .before .before .find-closing .ensures) (c .before .before .before .has-escapes .ensures) (c .enum-told2 .given .1))
+returns-2 c = escaped-found (c .before .before .before .before .before .before .args .sw) (c .before .before .before .before .before .before .args .head .«is_text») (c .before .before .before .before .before .before .args .head .body) (c .before .before .before .before .before .before .args .at) (c .before .before .before .before .before .before .args .head .before - 1) (c .before .before .before .before .before .before .args .head .hashes) _ _ (told _ _ _ _ _ _ (c .before .before .find-closing .ensures) (c .before .before .before .has-escapes .ensures) (c .enum-told2 .given .1))
 
 returns-3 : tie.Need-returns-3
-returns-3 c = hashes-found (c .before .before .before .before .before .args .sw) (c .before .before .before .before .before .args .istext) (c .before .before .before .before .before .args .body) (c .before .before .before .before .before .args .at) (c .before .before .before .before .before .args .head) (c .before .before .before .before .before .args .k) _ _ _ (told _ _ _ _ _ _ (c .before .before .find-closing .ensures) (c .before .before .before .has-escapes .ensures) (c .enum-told3 .given .1))
+returns-3 c = hashes-found (c .before .before .before .before .before .before .args .sw) (c .before .before .before .before .before .before .args .head .«is_text») (c .before .before .before .before .before .before .args .head .body) (c .before .before .before .before .before .before .args .at) (c .before .before .before .before .before .before .args .head .before - 1) (c .before .before .before .before .before .before .args .head .hashes) _ _ _ (told _ _ _ _ _ _ (c .before .before .find-closing .ensures) (c .before .before .before .has-escapes .ensures) (c .enum-told3 .given .1))
 
 returns-4 : tie.Need-returns-4
-returns-4 c = closed-found (c .before .before .before .before .before .before .before .args .sw) (c .before .before .before .before .before .before .before .args .istext) (c .before .before .before .before .before .before .before .args .body) (c .before .before .before .before .before .before .before .args .at) (c .before .before .before .before .before .before .before .args .head) (c .before .before .before .before .before .before .before .args .k) _ (c .before .before .n .given .0 .0) (c .before .before .before .before .before .before .before .args .at + 1 + c .before .before .before .before .before .before .before .args .head + (c .before .before .n .given .0 .0 - 1 - c .before .before .before .before .before .before .before .args .k) - (c .before .before .before .before .before .before .before .args .at + 1 + c .before .before .before .before .before .before .before .args .head)) (c .before .before .before .before .before .before .before .args .at + 1 + c .before .before .before .before .before .before .before .args .head + c .before .before .n .given .0 .0) _ (told _ _ _ _ _ _ (c .before .before .before .before .find-closing .ensures) (c .before .before .before .before .before .has-escapes .ensures) (c .before .before .n .given .1)) (omega arith) (omega arith) (c .content-item .ensures)
+returns-4 c = let w = closed-within (hasEscapes (c .before .before .before .before .before .before .before .before .before .args .head .body)) (c .before .before .before .before .before .before .before .before .before .args .head .hashes) (drop (c .before .before .before .before .before .before .before .before .before .args .at + c .before .before .before .before .before .before .before .before .before .args .head .before) (c .before .before .before .before .before .before .before .before .before .args .text .now)) (c .before .before .before .n .given .0 .0) (told _ _ _ _ _ _ (c .before .before .before .before .before .find-closing .ensures) (c .before .before .before .before .before .before .has-escapes .ensures) (c .before .before .before .n .given .1)) in
+    let d = length-drop (c .before .before .before .before .before .before .before .before .before .args .at + c .before .before .before .before .before .before .before .before .before .args .head .before) (c .before .before .before .before .before .before .before .before .before .args .text .now) in
+    closed-found (c .before .before .before .before .before .before .before .before .before .args .sw) (c .before .before .before .before .before .before .before .before .before .args .head .«is_text») (c .before .before .before .before .before .before .before .before .before .args .head .body) (c .before .before .before .before .before .before .before .before .before .args .at) (c .before .before .before .before .before .before .before .before .before .args .head .before - 1) (c .before .before .before .before .before .before .before .before .before .args .head .hashes) _ (c .before .before .before .n .given .0 .0) (c .before .before .before .before .before .before .before .before .before .args .at + c .before .before .before .before .before .before .before .before .before .args .head .before + (c .before .before .before .n .given .0 .0 - 1 - c .before .before .before .before .before .before .before .before .before .args .head .hashes) - (c .before .before .before .before .before .before .before .before .before .args .at + c .before .before .before .before .before .before .before .before .before .args .head .before)) (c .before .before .before .before .before .before .before .before .before .args .at + c .before .before .before .before .before .before .before .before .before .args .head .before + (c .before .before .before .n .given .0 .0 - 1 - c .before .before .before .before .before .before .before .before .before .args .head .hashes) + 1 + c .before .before .before .before .before .before .before .before .before .args .head .hashes) _ (told _ _ _ _ _ _ (c .before .before .before .before .before .find-closing .ensures) (c .before .before .before .before .before .before .has-escapes .ensures) (c .before .before .before .n .given .1)) (omega arith) (omega arith) (c .content-item .ensures)
 
 pub string-item-spec : {M : Type 1} → statement M
 string-item-spec =
     tie.close
     (tie.spec
-    add-from
-    add-from-2
+    add-start
     has-escapes-requires
     find-closing-requires
     enum-told
     enum-told-2
     enum-told-3
     enum-known-n
-    sub-content-item
-    sub-content-item-2
-    add-content-item
-    add-content-item-2
+    sub-t12
+    sub-t13
+    add-t14
     content-item-requires
     returns
     returns-2

@@ -3,50 +3,45 @@ use mathlib.Core.Path.{_≡_, refl, sym, ap, _∙_}
 use lib.ListN.{length, drop}
 use Prim.Native.Nat.{ℕ, _+_, _-_, suc, _≤_}
 use Rattle.text.specs.Bytes.{isWordByte}
-use Rattle.lexer.specs.Internal.{passes}
 use Rattle.lexer.proofs.PlaceLaws.{run-within, word-found, word-bad}
 use borrow.Author.Needs.{needs}
 use Rattle.lexer.proofs.item.word_item.Statement.{statement}
 use Rattle.lexer.proofs.item.word_item.Tie as tie
 use Rattle.lexer.proofs.item.word_item.Reads as reads
 use Rattle.lexer.proofs.item.word_item.Lts as lts
-use Rattle.lexer.proofs.runs.run_end.Reads as run-end-reads
+use Rattle.lexer.proofs.runs.word_end.Reads as word-end-reads
 use Rattle.literals.proofs.word.has_shape.Reads as has-shape-reads
 
-add-run-end : tie.Need-add-run-end
-add-run-end c = omega arith
+add-word-end : tie.Need-add-word-end
+add-word-end c = omega arith
 
-run-end-requires : tie.Need-run-end-requires
-run-end-requires c κs = search needs
+word-end-requires : tie.Need-word-end-requires
+word-end-requires c κs = c .before .pre .0
 
 sub-has-shape : tie.Need-sub-has-shape
-unfolding passes
 sub-has-shape c = let w = run-within isWordByte (c .before .before .args .text .now) (c .before .before .args .at + 1) (omega arith) in omega arith
 
 part-has-shape-start : tie.Need-part-has-shape-start
 part-has-shape-start c = omega arith
 
 part-has-shape-end : tie.Need-part-has-shape-end
-unfolding passes
-part-has-shape-end c = let w = run-within isWordByte (c .before .before .args .text .now) (c .before .before .args .at + 1) (omega arith) in let e = c .run-end .ensures in omega arith
+part-has-shape-end c = let w = run-within isWordByte (c .before .before .args .text .now) (c .before .before .args .at + 1) (omega arith) in let e = c .word-end .ensures in omega arith
 
 has-shape-requires : tie.Need-has-shape-requires
 has-shape-requires c κs = search needs
 
 returns : tie.Need-returns
-unfolding passes
-returns c = word-found (c .before .before .before .before .before .args .text .now) (c .before .before .before .before .before .args .at) (c .before .before .before .run-end .result) (omega arith) (c .before .before .before .run-end .ensures) (sym (c .before .has-shape .ensures) ∙ c .if1 .taken)
+returns c = word-found (c .before .before .before .before .before .args .text .now) (c .before .before .before .before .before .args .at) (c .before .before .before .word-end .result) (omega arith) (c .before .before .before .word-end .ensures) (sym (c .before .has-shape .ensures) ∙ c .if1 .taken)
 
 returns-2 : tie.Need-returns-2
-unfolding passes
-returns-2 c = word-bad (c .before .before .before .before .before .args .text .now) (c .before .before .before .before .before .args .at) (c .before .before .before .run-end .result) (omega arith) (c .before .before .before .run-end .ensures) (sym (c .before .has-shape .ensures) ∙ c .if1 .left)
+returns-2 c = word-bad (c .before .before .before .before .before .args .text .now) (c .before .before .before .before .before .args .at) (c .before .before .before .word-end .result) (omega arith) (c .before .before .before .word-end .ensures) (sym (c .before .has-shape .ensures) ∙ c .if1 .left)
 
 pub word-item-spec : {M : Type 1} → statement M
 word-item-spec =
     tie.close
     (tie.spec
-    add-run-end
-    run-end-requires
+    add-word-end
+    word-end-requires
     sub-has-shape
     part-has-shape-start
     part-has-shape-end

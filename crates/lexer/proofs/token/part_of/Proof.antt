@@ -1,57 +1,65 @@
 use native.Mathlib.Omega.{arith}
-use mathlib.Core.Path.{sym, _∙_}
-use Prim.Native.Nat.{_<_}
-use mathlib.Core.Path.{_≡_}
-use lib.ListN.{getD}
-use Rattle.lexer.proofs.PartLaws.{keyed-some, keyed-quote, keyed-b, keyed-r, keyed-own}
+use mathlib.Core.Path.{sym, ap, _∙_}
+use Prim.Native.Nat.{ℕ}
+use lib.ListN.{length}
+use Rattle.lexer.specs.Opening.{openingOf, openedPart, partOf}
+use Rattle.lexer.proofs.OpeningLaws.{head-within}
 use borrow.Author.Needs.{needs}
 use Rattle.lexer.proofs.token.part_of.Statement.{statement}
 use Rattle.lexer.proofs.token.part_of.Tie as tie
 use Rattle.lexer.proofs.token.part_of.Reads as reads
 use Rattle.lexer.proofs.token.part_of.Lts as lts
-use Rattle.lexer.proofs.item.byte_at.Reads as byte-at-reads
-use Rattle.lexer.proofs.token.b_part.Reads as b-part-reads
-use Rattle.lexer.proofs.token.r_part.Reads as r-part-reads
-use Rattle.lexer.proofs.token.string_part.Reads as string-part-reads
+use Rattle.lexer.proofs.opening.opening_of.Reads as opening-of-reads
 use Rattle.lexer.proofs.token.word_part.Reads as word-part-reads
 
-byte-at-requires : tie.Need-byte-at-requires
-byte-at-requires c κs = search needs
+opening-of-requires : tie.Need-opening-of-requires
+opening-of-requires c κs = search needs
 
-string-part-requires : tie.Need-string-part-requires
-string-part-requires c κs = (keyed-some (c .before .before .before .args .sw) (c .before .before .before .args .token .now) (c .before .before .before .pre), keyed-quote (c .before .before .before .args .sw) (c .before .before .before .args .token .now) (c .before .before .before .pre) (sym (c .before .byte-at .ensures) ∙ c .if1 .taken))
+enum-known-head : tie.Need-enum-known-head
+enum-known-head c = search needs
 
-returns : tie.Need-returns
-returns c = c .string-part .ensures
+sub-t9 : tie.Need-sub-t9
+sub-t9 c = let w = head-within (c .before .before .before .before .before .args .sw) (c .before .before .before .before .before .args .token .now) (c .before .head .given .0 .0) (sym (c .before .before .before .opening-of .ensures) ∙ c .before .head .given .1) in omega arith
 
-b-part-requires : tie.Need-b-part-requires
-b-part-requires c κs = (sym (c .before .before .byte-at .ensures) ∙ c .if2 .taken, keyed-b (c .before .before .before .before .args .sw) (c .before .before .before .before .args .token .now) (c .before .before .before .before .pre) (sym (c .before .before .byte-at .ensures) ∙ c .if2 .taken))
+sub-t10 : tie.Need-sub-t10
+sub-t10 c = let w = head-within (c .before .before .before .before .before .before .args .sw) (c .before .before .before .before .before .before .args .token .now) (c .before .before .head .given .0 .0) (sym (c .before .before .before .before .opening-of .ensures) ∙ c .before .before .head .given .1) in omega arith
 
-returns-2 : tie.Need-returns-2
-returns-2 c = c .b-part .ensures
-
-r-part-requires : tie.Need-r-part-requires
-r-part-requires c κs = (sym (c .before .before .before .byte-at .ensures) ∙ c .if3 .taken, keyed-r (c .before .before .before .before .before .args .sw) (c .before .before .before .before .before .args .token .now) (c .before .before .before .before .before .pre) (sym (c .before .before .before .byte-at .ensures) ∙ c .if3 .taken))
-
-returns-3 : tie.Need-returns-3
-returns-3 c = c .r-part .ensures
+enum-told : tie.Need-enum-told
+enum-told c = search needs
 
 word-part-requires : tie.Need-word-part-requires
-word-part-requires c κs = let q : c .before .before .before .byte-at .result ≡ getD (c .before .before .before .before .before .args .token .now) 0 0 = c .before .before .before .byte-at .ensures in let h : getD (c .before .before .before .before .before .args .token .now) 0 0 < 256 = omega arith in keyed-own (c .before .before .before .before .before .args .sw) (c .before .before .before .before .before .args .token .now) (c .before .before .before .before .before .pre) h (λ e. c .before .before .if1 .left (c .before .before .before .byte-at .ensures ∙ e)) (λ e. c .before .if2 .left (c .before .before .before .byte-at .ensures ∙ e)) (λ e. c .if3 .left (c .before .before .before .byte-at .ensures ∙ e))
+word-part-requires c κs = search needs
 
-returns-4 : tie.Need-returns-4
-returns-4 c = c .word-part .ensures
+enum-told-2 : tie.Need-enum-told-2
+enum-told-2 c = search needs
+
+word-part-requires-2 : tie.Need-word-part-requires-2
+word-part-requires-2 c κs = search needs
+
+returns : tie.Need-returns
+unfolding partOf openedPart
+returns c = sym (ap (openedPart (length (c .before .before .before .before .before .before .args .token .now))) (sym (c .before .before .before .before .opening-of .ensures) ∙ c .before .before .head .given .1))
+
+returns-2 : tie.Need-returns-2
+unfolding partOf openedPart
+returns-2 c = c .word-part .ensures ∙ sym (ap (openedPart (length (c .before .before .before .before .before .args .token .now))) (sym (c .before .before .before .opening-of .ensures) ∙ c .before .enum-told .given .1))
+
+returns-3 : tie.Need-returns-3
+unfolding partOf openedPart
+returns-3 c = c .word-part2 .ensures ∙ sym (ap (openedPart (length (c .before .before .before .before .before .args .token .now))) (sym (c .before .before .before .opening-of .ensures) ∙ c .before .enum-told2 .given .1))
 
 pub part-of-spec : {M : Type 1} → statement M
 part-of-spec =
     tie.close
     (tie.spec
-    byte-at-requires
-    string-part-requires
-    returns
-    b-part-requires
-    returns-2
-    r-part-requires
-    returns-3
+    opening-of-requires
+    enum-known-head
+    sub-t9
+    sub-t10
+    enum-told
     word-part-requires
-    returns-4)
+    enum-told-2
+    word-part-requires-2
+    returns
+    returns-2
+    returns-3)

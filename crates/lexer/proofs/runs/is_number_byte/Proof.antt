@@ -1,0 +1,27 @@
+use native.Mathlib.Omega.{arith}
+use borrow.Author.Tests.{eq-eqb, ne-eqb}
+use Rattle.text.specs.Bytes.{isNumberByte}
+use borrow.Author.Needs.{needs}
+use Rattle.lexer.proofs.runs.is_number_byte.Statement.{statement}
+use Rattle.lexer.proofs.runs.is_number_byte.Tie as tie
+use Rattle.lexer.proofs.runs.is_number_byte.Reads as reads
+use Rattle.lexer.proofs.runs.is_number_byte.Lts as lts
+use Rattle.lexer.proofs.runs.is_word_byte.Reads as is-word-byte-reads
+
+returns : tie.Need-returns
+unfolding isNumberByte
+returns c = rw (eq-eqb _ _ (c .if1 .taken))
+
+returns-2 : tie.Need-returns-2
+unfolding isNumberByte
+returns-2 c = rw (ne-eqb _ _ (c .before .if1 .left), eq-eqb _ _ (c .if2 .taken))
+
+is-word-byte-requires : tie.Need-is-word-byte-requires
+is-word-byte-requires c κs = c .before .before .pre
+
+returns-3 : tie.Need-returns-3
+unfolding isNumberByte
+returns-3 c = rw (ne-eqb _ _ (c .before .before .if1 .left), ne-eqb _ _ (c .before .if2 .left)) (c .is-word-byte .ensures)
+
+pub is-number-byte-spec : {M : Type 1} → statement M
+is-number-byte-spec = tie.close (tie.spec returns returns-2 is-word-byte-requires returns-3)
