@@ -24,54 +24,54 @@ pub enum Block {
     Closed(usize),
 }
 
-// A quote and j hashes have been read.
-fn after_quote(escapes: bool, k: usize, j: usize, n: usize) -> Closing
-    ensures { λ r. ⌜ r ≡ afterQuote escapes k j n ⌝ }
+// A quote and `seen` hashes have been read.
+fn after_quote(escapes: bool, hashes: usize, seen: usize, read: usize) -> Closing
+    ensures { λ r. ⌜ r ≡ afterQuote escapes hashes seen read ⌝ }
 {
-    if j == k {
-        return Closing::Closed(n);
+    if seen == hashes {
+        return Closing::Closed(read);
     }
-    Closing::Hashes(j, n)
+    Closing::Hashes(seen, read)
 }
 
 // A byte that goes on with no begun closing.
-fn after_other(escapes: bool, k: usize, n: usize, b: u8) -> Closing
-    requires { ⌜ n < 18446744073709551615 ⌝ }
-    ensures { λ r. ⌜ r ≡ afterOther escapes k n b ⌝ }
+fn after_other(escapes: bool, hashes: usize, read: usize, b: u8) -> Closing
+    requires { ⌜ read < 18446744073709551615 ⌝ }
+    ensures { λ r. ⌜ r ≡ afterOther escapes hashes read b ⌝ }
 {
     if b == b'"' {
-        return after_quote(escapes, k, 0, n + 1);
+        return after_quote(escapes, hashes, 0, read + 1);
     }
     if b != b'\\' {
-        return Closing::Inside(n + 1);
+        return Closing::Inside(read + 1);
     }
     if escapes {
-        return Closing::Escaped(n + 1);
+        return Closing::Escaped(read + 1);
     }
-    Closing::Inside(n + 1)
+    Closing::Inside(read + 1)
 }
 
-fn closing_step(escapes: bool, k: usize, c: Closing, b: u8) -> Closing
-    requires { ⌜ closingRead c < 18446744073709551615 ⌝ }
-    ensures { λ r. ⌜ r ≡ closingStep escapes k c b ⌝ }
+fn closing_step(escapes: bool, hashes: usize, state: Closing, b: u8) -> Closing
+    requires { ⌜ closingRead state < 18446744073709551615 ⌝ }
+    ensures { λ r. ⌜ r ≡ closingStep escapes hashes state b ⌝ }
 {
-    match c {
-        Closing::Inside(n) => after_other(escapes, k, n, b),
-        Closing::Escaped(n) => Closing::Inside(n + 1),
-        Closing::Hashes(j, n) => {
+    match state {
+        Closing::Inside(read) => after_other(escapes, hashes, read, b),
+        Closing::Escaped(read) => Closing::Inside(read + 1),
+        Closing::Hashes(seen, read) => {
             if b == b'#' {
-                return after_quote(escapes, k, j + 1, n + 1);
+                return after_quote(escapes, hashes, seen + 1, read + 1);
             }
-            after_other(escapes, k, n, b)
+            after_other(escapes, hashes, read, b)
         }
-        Closing::Closed(n) => Closing::Closed(n),
+        Closing::Closed(read) => Closing::Closed(read),
     }
 }
 
-fn is_closed(c: Closing) -> bool
-    ensures { λ r. ⌜ r ≡ isClosed c ⌝ }
+fn is_closed(state: Closing) -> bool
+    ensures { λ r. ⌜ r ≡ isClosed state ⌝ }
 {
-    match c {
+    match state {
         Closing::Inside(_) => false,
         Closing::Escaped(_) => false,
         Closing::Hashes(_, _) => false,
@@ -96,60 +96,60 @@ fn plain_end(text: &[u8], from: usize) -> usize
     i
 }
 
-// Where the string ends whose opening quote stands before `from`. The machine is fed the bytes that may change its state; the others
+// Where the string ends whose opening quote stands before `from`, with this many hashes before the quote. The machine is fed the bytes that may change its state; the others
 // are passed over by `plain_end`.
-pub fn find_closing(text: &[u8], from: usize, escapes: bool, k: usize) -> Closing
-    ensures { λ r. ⌜ r ≡ closing escapes k (drop from (now (text .entry))) ⌝ }
+pub(crate) fn find_closing(text: &[u8], from: usize, escapes: bool, hashes: usize) -> Closing
+    ensures { λ r. ⌜ r ≡ closing escapes hashes (drop from (now (text .entry))) ⌝ }
 {
     let start = plain_end(text, from);
-    let mut c = Closing::Inside(start - from);
+    let mut state = Closing::Inside(start - from);
     let mut i = start;
     while i < text.len() {
-        c = closing_step(escapes, k, c, text[i]);
-        if is_closed(c) {
-            return c;
+        state = closing_step(escapes, hashes, state, text[i]);
+        if is_closed(state) {
+            return state;
         }
         i += 1;
-        match c {
-            Closing::Inside(n) => {
+        match state {
+            Closing::Inside(read) => {
                 let next = plain_end(text, i);
-                c = Closing::Inside(n + (next - i));
+                state = Closing::Inside(read + (next - i));
                 i = next;
             }
             _ => {}
         }
     }
-    c
+    state
 }
 
-fn block_step(c: Block, b: u8) -> Block
-    requires { ⌜ blockRead c < 18446744073709551615 ⌝ }
-    ensures { λ r. ⌜ r ≡ blockStep c b ⌝ }
+fn block_step(state: Block, b: u8) -> Block
+    requires { ⌜ blockRead state < 18446744073709551615 ⌝ }
+    ensures { λ r. ⌜ r ≡ blockStep state b ⌝ }
 {
-    match c {
-        Block::Inside(n) => {
+    match state {
+        Block::Inside(read) => {
             if b == b'*' {
-                return Block::Starred(n + 1);
+                return Block::Starred(read + 1);
             }
-            Block::Inside(n + 1)
+            Block::Inside(read + 1)
         }
-        Block::Starred(n) => {
+        Block::Starred(read) => {
             if b == b'/' {
-                return Block::Closed(n + 1);
+                return Block::Closed(read + 1);
             }
             if b == b'*' {
-                return Block::Starred(n + 1);
+                return Block::Starred(read + 1);
             }
-            Block::Inside(n + 1)
+            Block::Inside(read + 1)
         }
-        Block::Closed(n) => Block::Closed(n),
+        Block::Closed(read) => Block::Closed(read),
     }
 }
 
-fn is_shut(c: Block) -> bool
-    ensures { λ r. ⌜ r ≡ isShut c ⌝ }
+fn is_shut(state: Block) -> bool
+    ensures { λ r. ⌜ r ≡ isShut state ⌝ }
 {
-    match c {
+    match state {
         Block::Inside(_) => false,
         Block::Starred(_) => false,
         Block::Closed(_) => true,
@@ -157,17 +157,17 @@ fn is_shut(c: Block) -> bool
 }
 
 // Where the comment ends whose `/*` stands before `from`.
-pub fn find_block(text: &[u8], from: usize) -> Block
+pub(crate) fn find_block(text: &[u8], from: usize) -> Block
     ensures { λ r. ⌜ r ≡ block (drop from (now (text .entry))) ⌝ }
 {
-    let mut c = Block::Inside(0);
+    let mut state = Block::Inside(0);
     let mut i = from;
     while i < text.len() {
-        c = block_step(c, text[i]);
-        if is_shut(c) {
-            return c;
+        state = block_step(state, text[i]);
+        if is_shut(state) {
+            return state;
         }
         i += 1;
     }
-    c
+    state
 }

@@ -14,7 +14,7 @@ use borrow.Author.Tests.{le-leb, lt-leb, lt-ltb, le-ltb, leb-true, leb-false}
 use Rattle.text.specs.Bytes.{feed}
 use Rattle.text.proofs.FeedLaws.{feed-next}
 use Rattle.literals.specs.declared.number.Number.{Number}
-use Rattle.literals.specs.declared.number.Number.the-variants.{Start, Bad, Sign, Zero, Digit, Gap, Dot, Prefix, Based, BasedGap, Fraction, FractionGap, Mark, ExpSign, ExpDigit, ExpGap}
+use Rattle.literals.specs.declared.number.Number.the-variants.{Start, Bad, Sign, Zero, Digit, Underscore, Dot, Prefix, Based, BasedUnderscore, Fraction, FractionUnderscore, ExpLetter, ExpSign, ExpDigit, ExpUnderscore}
 use Rattle.literals.specs.declared.number.Meaning.the-variants.{Decimal, TooWide}
 use Rattle.literals.specs.Number.{numberStep, signedBy, asInteger, asDecimal, meaning}
 use Rattle.literals.specs.InternalNumber.{cap, capped, placesOf}
@@ -77,17 +77,17 @@ step-capped Bad b = refl
 step-capped (Sign minus) b = refl
 step-capped (Zero signed minus) b = refl
 step-capped (Digit minus m) b = simp (capped-cond, cap-digit, cap-cap)
-step-capped (Gap minus m) b = simp (capped-cond, cap-digit)
+step-capped (Underscore minus m) b = simp (capped-cond, cap-digit)
 step-capped (Dot minus m) b = simp (capped-cond, cap-digit)
 step-capped (Prefix base) b = refl
 step-capped (Based base m) b = simp (capped-cond, cap-digit, cap-cap)
-step-capped (BasedGap base m) b = simp (capped-cond, cap-digit)
+step-capped (BasedUnderscore base m) b = simp (capped-cond, cap-digit)
 step-capped (Fraction minus m places) b = simp (capped-cond, cap-digit, cap-cap)
-step-capped (FractionGap minus m places) b = simp (capped-cond, cap-digit)
-step-capped (Mark minus m places) b = simp (capped-cond, cap-cap)
+step-capped (FractionUnderscore minus m places) b = simp (capped-cond, cap-digit)
+step-capped (ExpLetter minus m places) b = simp (capped-cond, cap-cap)
 step-capped (ExpSign minus m places below) b = simp (capped-cond, cap-cap)
 step-capped (ExpDigit minus m places below exp) b = simp (capped-cond, cap-digit, cap-cap)
-step-capped (ExpGap minus m places below exp) b = simp (capped-cond, cap-digit, cap-cap)
+step-capped (ExpUnderscore minus m places below exp) b = simp (capped-cond, cap-digit, cap-cap)
 
 -- states that are the same capped step to states that are
 same-step : (n k : Number) (b : ℕ) → capped n ≡ capped k → capped (numberStep n b) ≡ capped (numberStep k b)
@@ -131,17 +131,17 @@ step-few Bad b = refl
 step-few (Sign minus) b = simp (few-cond, both-true)
 step-few (Zero signed minus) b = simp (few-cond, both-true)
 step-few (Digit minus m) b = simp (few-cond, both-true)
-step-few (Gap minus m) b = simp (few-cond, both-true)
+step-few (Underscore minus m) b = simp (few-cond, both-true)
 step-few (Dot minus m) b = simp (few-cond, both-true)
 step-few (Prefix base) b = simp (few-cond, both-true)
 step-few (Based base m) b = simp (few-cond, both-true)
-step-few (BasedGap base m) b = simp (few-cond, both-true)
+step-few (BasedUnderscore base m) b = simp (few-cond, both-true)
 step-few (Fraction minus m places) b = simp (few-cond, none-few, all-few, less-few, both-true)
-step-few (FractionGap minus m places) b = simp (few-cond, none-few, all-few, both-true)
-step-few (Mark minus m places) b = simp (few-cond, none-few, less-few, both-true)
+step-few (FractionUnderscore minus m places) b = simp (few-cond, none-few, all-few, both-true)
+step-few (ExpLetter minus m places) b = simp (few-cond, none-few, less-few, both-true)
 step-few (ExpSign minus m places below) b = simp (few-cond, none-few, less-few, both-true)
 step-few (ExpDigit minus m places below exp) b = simp (few-cond, none-few, less-few, both-true)
-step-few (ExpGap minus m places below exp) b = simp (few-cond, none-few, less-few, both-true)
+step-few (ExpUnderscore minus m places below exp) b = simp (few-cond, none-few, less-few, both-true)
 
 -- the cap does not touch it
 places-capped : (n : Number) → placesOf (capped n) ≡ placesOf n
@@ -151,17 +151,17 @@ places-capped Bad = refl
 places-capped (Sign minus) = refl
 places-capped (Zero signed minus) = refl
 places-capped (Digit minus m) = refl
-places-capped (Gap minus m) = refl
+places-capped (Underscore minus m) = refl
 places-capped (Dot minus m) = refl
 places-capped (Prefix base) = refl
 places-capped (Based base m) = refl
-places-capped (BasedGap base m) = refl
+places-capped (BasedUnderscore base m) = refl
 places-capped (Fraction minus m places) = refl
-places-capped (FractionGap minus m places) = refl
-places-capped (Mark minus m places) = refl
+places-capped (FractionUnderscore minus m places) = refl
+places-capped (ExpLetter minus m places) = refl
 places-capped (ExpSign minus m places below) = refl
 places-capped (ExpDigit minus m places below exp) = refl
-places-capped (ExpGap minus m places below exp) = refl
+places-capped (ExpUnderscore minus m places below exp) = refl
 
 same-places : (n k : Number) → capped n ≡ capped k → placesOf n ≡ placesOf k
 same-places n k e = sym (places-capped n) ∙ ap placesOf e ∙ places-capped k
@@ -262,18 +262,18 @@ meaning-capped Bad h = refl
 meaning-capped (Sign minus) h = refl
 meaning-capped (Zero signed minus) h = refl
 meaning-capped (Digit minus m) h = integer-capped minus m
-meaning-capped (Gap minus m) h = refl
+meaning-capped (Underscore minus m) h = refl
 meaning-capped (Dot minus m) h = refl
 meaning-capped (Prefix base) h = refl
 meaning-capped (Based base m) h = integer-capped false m
-meaning-capped (BasedGap base m) h = refl
+meaning-capped (BasedUnderscore base m) h = refl
 meaning-capped (Fraction minus m places) h = decimal-capped minus m (negℤ (pos places))
-meaning-capped (FractionGap minus m places) h = refl
-meaning-capped (Mark minus m places) h = refl
+meaning-capped (FractionUnderscore minus m places) h = refl
+meaning-capped (ExpLetter minus m places) h = refl
 meaning-capped (ExpSign minus m places below) h = refl
 meaning-capped (ExpDigit minus m places below exp) h =
     decimal-capped minus m (signedBy below (cap exp) +ℤ negℤ (pos places)) ∙ exponent-capped minus m places below exp h
-meaning-capped (ExpGap minus m places below exp) h = refl
+meaning-capped (ExpUnderscore minus m places below exp) h = refl
 
 -- states that are the same capped mean the same, after fewer bytes than a slice can have
 pub same-meaning : (n k : Number) → capped n ≡ capped k → placesOf k < 9223372036854775808 → meaning n ≡ meaning k

@@ -9,7 +9,7 @@ use lib.IntN.{ℤ, pos, negsuc, negℤ, _+ℤ_}
 use lib.Signed.{leZ}
 use Rattle.text.specs.Bytes.{feed, is, between, isDigitIn, digitValue}
 use Rattle.literals.specs.declared.number.Number.{Number}
-use Rattle.literals.specs.declared.number.Number.the-variants.{Start, Bad, Sign, Zero, Digit, Gap, Dot, Prefix, Based, BasedGap, Fraction, FractionGap, Mark, ExpSign, ExpDigit, ExpGap}
+use Rattle.literals.specs.declared.number.Number.the-variants.{Start, Bad, Sign, Zero, Digit, Underscore, Dot, Prefix, Based, BasedUnderscore, Fraction, FractionUnderscore, ExpLetter, ExpSign, ExpDigit, ExpUnderscore}
 use Rattle.literals.specs.declared.number.Meaning.{Meaning}
 use Rattle.literals.specs.declared.number.Meaning.the-variants.{Integer, Decimal, Malformed, TooWide}
 
@@ -46,36 +46,36 @@ numberStep (Sign minus) b = cond (isZero b) (Zero true minus) (cond (isOneToNine
 -- "`0x` `0o` `0b` in small letters .. no sign"
 numberStep (Zero signed minus) b =
     cond (is "." b) (Dot minus 0)
-    (cond (isE b) (Mark minus 0 0)
+    (cond (isE b) (ExpLetter minus 0 0)
     (cond (not signed && ltb 0 (baseOf b)) (Prefix (baseOf b)) Bad))
 -- "a single `_` allowed between two digits"
 numberStep (Digit minus m) b =
     cond (isDigitIn 10 b) (Digit minus (andDigit 10 m b))
-    (cond (is "_" b) (Gap minus m)
+    (cond (is "_" b) (Underscore minus m)
     (cond (is "." b) (Dot minus m)
-    (cond (isE b) (Mark minus m 0) Bad)))
-numberStep (Gap minus m) b = cond (isDigitIn 10 b) (Digit minus (andDigit 10 m b)) Bad
+    (cond (isE b) (ExpLetter minus m 0) Bad)))
+numberStep (Underscore minus m) b = cond (isDigitIn 10 b) (Digit minus (andDigit 10 m b)) Bad
 -- "leading zeros allowed, `_` only between digits"
 numberStep (Prefix base) b = cond (isDigitIn base b) (Based base (digitValue b)) Bad
-numberStep (Based base m) b = cond (isDigitIn base b) (Based base (andDigit base m b)) (cond (is "_" b) (BasedGap base m) Bad)
-numberStep (BasedGap base m) b = cond (isDigitIn base b) (Based base (andDigit base m b)) Bad
+numberStep (Based base m) b = cond (isDigitIn base b) (Based base (andDigit base m b)) (cond (is "_" b) (BasedUnderscore base m) Bad)
+numberStep (BasedUnderscore base m) b = cond (isDigitIn base b) (Based base (andDigit base m b)) Bad
 -- "then a fraction (digits, `_` between digits), or `e`/`E` and an exponent .. or both"
 numberStep (Dot minus m) b = cond (isDigitIn 10 b) (Fraction minus (andDigit 10 m b) 1) Bad
 numberStep (Fraction minus m places) b =
     cond (isDigitIn 10 b) (Fraction minus (andDigit 10 m b) (suc places))
-    (cond (is "_" b) (FractionGap minus m places)
-    (cond (isE b) (Mark minus m places) Bad))
-numberStep (FractionGap minus m places) b = cond (isDigitIn 10 b) (Fraction minus (andDigit 10 m b) (suc places)) Bad
+    (cond (is "_" b) (FractionUnderscore minus m places)
+    (cond (isE b) (ExpLetter minus m places) Bad))
+numberStep (FractionUnderscore minus m places) b = cond (isDigitIn 10 b) (Fraction minus (andDigit 10 m b) (suc places)) Bad
 -- Req 02: "an exponent is an optional sign and one or more digits, with a single underscore allowed between digits, and leading zeros
 -- allowed"
-numberStep (Mark minus m places) b =
+numberStep (ExpLetter minus m places) b =
     cond (isSign b) (ExpSign minus m places (is "-" b))
     (cond (isDigitIn 10 b) (ExpDigit minus m places false (digitValue b)) Bad)
 numberStep (ExpSign minus m places below) b = cond (isDigitIn 10 b) (ExpDigit minus m places below (digitValue b)) Bad
 numberStep (ExpDigit minus m places below exp) b =
     cond (isDigitIn 10 b) (ExpDigit minus m places below (andDigit 10 exp b))
-    (cond (is "_" b) (ExpGap minus m places below exp) Bad)
-numberStep (ExpGap minus m places below exp) b = cond (isDigitIn 10 b) (ExpDigit minus m places below (andDigit 10 exp b)) Bad
+    (cond (is "_" b) (ExpUnderscore minus m places below exp) Bad)
+numberStep (ExpUnderscore minus m places below exp) b = cond (isDigitIn 10 b) (ExpDigit minus m places below (andDigit 10 exp b)) Bad
 numberStep Bad b = Bad
 
 -- the greatest signed 64-bit integer
@@ -102,17 +102,17 @@ meaning Bad = Malformed
 meaning (Sign minus) = Malformed
 meaning (Zero signed minus) = asInteger minus 0
 meaning (Digit minus m) = asInteger minus m
-meaning (Gap minus m) = Malformed
+meaning (Underscore minus m) = Malformed
 meaning (Dot minus m) = Malformed
 meaning (Prefix base) = Malformed
 meaning (Based base m) = asInteger false m
-meaning (BasedGap base m) = Malformed
+meaning (BasedUnderscore base m) = Malformed
 meaning (Fraction minus m places) = asDecimal minus m (negℤ (pos places))
-meaning (FractionGap minus m places) = Malformed
-meaning (Mark minus m places) = Malformed
+meaning (FractionUnderscore minus m places) = Malformed
+meaning (ExpLetter minus m places) = Malformed
 meaning (ExpSign minus m places below) = Malformed
 meaning (ExpDigit minus m places below exp) = asDecimal minus m (signedBy below exp +ℤ negℤ (pos places))
-meaning (ExpGap minus m places below exp) = Malformed
+meaning (ExpUnderscore minus m places below exp) = Malformed
 
 -- the meaning of a number token's bytes
 unfoldable pub number : List ℕ → Meaning

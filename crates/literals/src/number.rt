@@ -19,8 +19,8 @@ const CAP: u64 = 10000000000000000000;
 
 // Where a number stands, named by its last byte, with what has been read: whether a sign (signed) and a minus, the whole number
 // m of all digits so far, the count of fraction digits (places), the exponent's minus and its value. Zero is a 0 as the whole
-// integer part; a Gap stands after a `_`, Dot after the point, Mark after the `e` or `E`; Prefix after `0x`, `0o` or `0b`, and
-// Based after a digit there.
+// integer part; Dot stands after the point, ExpLetter after the `e` or `E`; Prefix after `0x`, `0o` or `0b`, and Based after a digit
+// there.
 pub enum Number {
     Start,
     Bad,
@@ -35,7 +35,7 @@ pub enum Number {
         minus: bool,
         m: u64,
     },
-    Gap {
+    Underscore {
         minus: bool,
         m: u64,
     },
@@ -50,7 +50,7 @@ pub enum Number {
         base: u64,
         m: u64,
     },
-    BasedGap {
+    BasedUnderscore {
         base: u64,
         m: u64,
     },
@@ -59,12 +59,12 @@ pub enum Number {
         m: u64,
         places: u64,
     },
-    FractionGap {
+    FractionUnderscore {
         minus: bool,
         m: u64,
         places: u64,
     },
-    Mark {
+    ExpLetter {
         minus: bool,
         m: u64,
         places: u64,
@@ -82,7 +82,7 @@ pub enum Number {
         below: bool,
         exp: u64,
     },
-    ExpGap {
+    ExpUnderscore {
         minus: bool,
         m: u64,
         places: u64,
@@ -208,7 +208,7 @@ fn zero_step(signed: bool, minus: bool, b: u8) -> Number
         return Number::Dot { minus, m: 0 };
     }
     if is_e(b) {
-        return Number::Mark {
+        return Number::ExpLetter {
             minus,
             m: 0,
             places: 0,
@@ -235,13 +235,13 @@ fn digit_step(minus: bool, m: u64, b: u8) -> Number
         };
     }
     if b == b'_' {
-        return Number::Gap { minus, m };
+        return Number::Underscore { minus, m };
     }
     if b == b'.' {
         return Number::Dot { minus, m };
     }
     if is_e(b) {
-        return Number::Mark {
+        return Number::ExpLetter {
             minus,
             m,
             places: 0,
@@ -250,8 +250,8 @@ fn digit_step(minus: bool, m: u64, b: u8) -> Number
     Number::Bad
 }
 
-fn gap_step(minus: bool, m: u64, b: u8) -> Number
-    ensures { λ r. ⌜ capped r ≡ capped (numberStep (Number.Gap minus m) b) ⌝ }
+fn underscore_step(minus: bool, m: u64, b: u8) -> Number
+    ensures { λ r. ⌜ capped r ≡ capped (numberStep (Number.Underscore minus m) b) ⌝ }
 {
     let d = digit_of(b);
     if d < 10 {
@@ -298,13 +298,13 @@ fn based_step(base: u64, m: u64, b: u8) -> Number
         };
     }
     if b == b'_' {
-        return Number::BasedGap { base, m };
+        return Number::BasedUnderscore { base, m };
     }
     Number::Bad
 }
 
-fn based_gap_step(base: u64, m: u64, b: u8) -> Number
-    ensures { λ r. ⌜ capped r ≡ capped (numberStep (Number.BasedGap base m) b) ⌝ }
+fn based_underscore_step(base: u64, m: u64, b: u8) -> Number
+    ensures { λ r. ⌜ capped r ≡ capped (numberStep (Number.BasedUnderscore base m) b) ⌝ }
 {
     let d = digit_of(b);
     if d < base {
@@ -329,17 +329,17 @@ fn fraction_step(minus: bool, m: u64, places: u64, b: u8) -> Number
         };
     }
     if b == b'_' {
-        return Number::FractionGap { minus, m, places };
+        return Number::FractionUnderscore { minus, m, places };
     }
     if is_e(b) {
-        return Number::Mark { minus, m, places };
+        return Number::ExpLetter { minus, m, places };
     }
     Number::Bad
 }
 
-fn fraction_gap_step(minus: bool, m: u64, places: u64, b: u8) -> Number
+fn fraction_underscore_step(minus: bool, m: u64, places: u64, b: u8) -> Number
     requires { ⌜ places < 18446744073709551615 ⌝ }
-    ensures { λ r. ⌜ capped r ≡ capped (numberStep (Number.FractionGap minus m places) b) ⌝ }
+    ensures { λ r. ⌜ capped r ≡ capped (numberStep (Number.FractionUnderscore minus m places) b) ⌝ }
 {
     let d = digit_of(b);
     if d < 10 {
@@ -352,8 +352,8 @@ fn fraction_gap_step(minus: bool, m: u64, places: u64, b: u8) -> Number
     Number::Bad
 }
 
-fn mark_step(minus: bool, m: u64, places: u64, b: u8) -> Number
-    ensures { λ r. ⌜ capped r ≡ capped (numberStep (Number.Mark minus m places) b) ⌝ }
+fn exp_letter_step(minus: bool, m: u64, places: u64, b: u8) -> Number
+    ensures { λ r. ⌜ capped r ≡ capped (numberStep (Number.ExpLetter minus m places) b) ⌝ }
 {
     if b == b'+' {
         return Number::ExpSign {
@@ -395,7 +395,7 @@ fn exp_digit_step(minus: bool, m: u64, places: u64, below: bool, exp: u64, b: u8
     ensures { λ r. ⌜ capped r ≡ capped (numberStep (Number.ExpDigit minus m places below exp) b) ⌝ }
 {
     if b == b'_' {
-        return Number::ExpGap {
+        return Number::ExpUnderscore {
             minus,
             m,
             places,
@@ -404,11 +404,11 @@ fn exp_digit_step(minus: bool, m: u64, places: u64, below: bool, exp: u64, b: u8
         };
     }
     // no underscore: judged as a digit, as after one
-    exp_gap_step(minus, m, places, below, exp, b)
+    exp_underscore_step(minus, m, places, below, exp, b)
 }
 
-fn exp_gap_step(minus: bool, m: u64, places: u64, below: bool, exp: u64, b: u8) -> Number
-    ensures { λ r. ⌜ capped r ≡ capped (numberStep (Number.ExpGap minus m places below exp) b) ⌝ }
+fn exp_underscore_step(minus: bool, m: u64, places: u64, below: bool, exp: u64, b: u8) -> Number
+    ensures { λ r. ⌜ capped r ≡ capped (numberStep (Number.ExpUnderscore minus m places below exp) b) ⌝ }
 {
     let d = digit_of(b);
     if 10 <= d {
@@ -434,14 +434,19 @@ fn number_step(state: Number, b: u8) -> Number
         Number::Sign { minus } => sign_step(minus, b),
         Number::Zero { signed, minus } => zero_step(signed, minus, b),
         Number::Digit { minus, m } => digit_step(minus, m, b),
-        Number::Gap { minus, m } => gap_step(minus, m, b),
+        Number::Underscore { minus, m } => underscore_step(minus, m, b),
         Number::Dot { minus, m } => dot_step(minus, m, b),
         Number::Prefix { base } => prefix_step(base, b),
         Number::Based { base, m } => based_step(base, m, b),
-        Number::BasedGap { base, m } => based_gap_step(base, m, b),
+        Number::BasedUnderscore { base, m } => based_underscore_step(base, m, b),
         Number::Fraction { minus, m, places } => fraction_step(minus, m, places, b),
-        Number::FractionGap { minus, m, places } => fraction_gap_step(minus, m, places, b),
-        Number::Mark { minus, m, places } => mark_step(minus, m, places, b),
+        Number::FractionUnderscore { minus, m, places } => fraction_underscore_step(
+            minus,
+            m,
+            places,
+            b,
+        ),
+        Number::ExpLetter { minus, m, places } => exp_letter_step(minus, m, places, b),
         Number::ExpSign {
             minus,
             m,
@@ -455,13 +460,13 @@ fn number_step(state: Number, b: u8) -> Number
             below,
             exp,
         } => exp_digit_step(minus, m, places, below, exp, b),
-        Number::ExpGap {
+        Number::ExpUnderscore {
             minus,
             m,
             places,
             below,
             exp,
-        } => exp_gap_step(minus, m, places, below, exp, b),
+        } => exp_underscore_step(minus, m, places, below, exp, b),
     }
 }
 
@@ -531,18 +536,18 @@ fn meaning_of(state: Number) -> Meaning
         Number::Sign { minus: _ } => Meaning::Malformed,
         Number::Zero { signed: _, minus } => as_integer(minus, 0),
         Number::Digit { minus, m } => as_integer(minus, m),
-        Number::Gap { minus: _, m: _ } => Meaning::Malformed,
+        Number::Underscore { minus: _, m: _ } => Meaning::Malformed,
         Number::Dot { minus: _, m: _ } => Meaning::Malformed,
         Number::Prefix { base: _ } => Meaning::Malformed,
         Number::Based { base: _, m } => as_integer(false, m),
-        Number::BasedGap { base: _, m: _ } => Meaning::Malformed,
+        Number::BasedUnderscore { base: _, m: _ } => Meaning::Malformed,
         Number::Fraction { minus, m, places } => as_decimal(minus, m, true, places),
-        Number::FractionGap {
+        Number::FractionUnderscore {
             minus: _,
             m: _,
             places: _,
         } => Meaning::Malformed,
-        Number::Mark {
+        Number::ExpLetter {
             minus: _,
             m: _,
             places: _,
@@ -560,7 +565,7 @@ fn meaning_of(state: Number) -> Meaning
             below,
             exp,
         } => with_exponent(minus, m, places, below, exp),
-        Number::ExpGap {
+        Number::ExpUnderscore {
             minus: _,
             m: _,
             places: _,

@@ -89,8 +89,8 @@ fn later_byte(n: usize, read: usize, more: usize) -> Utf8
     }
 }
 
-// The machine after one byte more. Public for the crates above, which count the bytes that they feed.
-pub fn utf8_step(u: Utf8, b: u8) -> Utf8
+// The machine after one byte more.
+pub(crate) fn utf8_step(u: Utf8, b: u8) -> Utf8
     requires { ⌜ bytesRead u < 18446744073709551615 ⌝ }
     ensures { λ r. ⌜ r ≡ utf8Step u b ⌝ }
 {

@@ -8,18 +8,20 @@ use Rattle.literals.proofs.number.exp_digit_step.Statement.{statement}
 use Rattle.literals.proofs.number.exp_digit_step.Tie as tie
 use Rattle.literals.proofs.number.exp_digit_step.Reads as reads
 use Rattle.literals.proofs.number.exp_digit_step.Lts as lts
-use Rattle.literals.proofs.number.exp_gap_step.Reads as exp-gap-step-reads
+use Rattle.literals.proofs.number.exp_underscore_step.Reads as exp-underscore-step-reads
+
+
 
 returns : tie.Need-returns
 unfolding digitValue numberStep capped
 returns c = rw (c .if1 .taken)
 
-exp-gap-step-requires : tie.Need-exp-gap-step-requires
-exp-gap-step-requires c κs = search needs
+exp-underscore-step-requires : tie.Need-exp-underscore-step-requires
+exp-underscore-step-requires c κs = search needs
 
 returns-2 : tie.Need-returns-2
 unfolding numberStep capped
-returns-2 c = rw (ne-eqb _ 95 (c .before .if1 .left)) (c .exp-gap-step .ensures)
+returns-2 c = rw (ne-eqb _ 95 (c .before .if1 .left)) (c .exp-underscore-step .ensures)
 
 pub exp-digit-step-spec : {M : Type 1} → statement M
-exp-digit-step-spec = tie.close (tie.spec returns exp-gap-step-requires returns-2)
+exp-digit-step-spec = tie.close (tie.spec returns exp-underscore-step-requires returns-2)

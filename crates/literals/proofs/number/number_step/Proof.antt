@@ -6,21 +6,23 @@ use Rattle.literals.proofs.number.number_step.Statement.{statement}
 use Rattle.literals.proofs.number.number_step.Tie as tie
 use Rattle.literals.proofs.number.number_step.Reads as reads
 use Rattle.literals.proofs.number.number_step.Lts as lts
-use Rattle.literals.proofs.number.based_gap_step.Reads as based-gap-step-reads
 use Rattle.literals.proofs.number.based_step.Reads as based-step-reads
+use Rattle.literals.proofs.number.based_underscore_step.Reads as based-underscore-step-reads
 use Rattle.literals.proofs.number.digit_step.Reads as digit-step-reads
 use Rattle.literals.proofs.number.dot_step.Reads as dot-step-reads
 use Rattle.literals.proofs.number.exp_digit_step.Reads as exp-digit-step-reads
-use Rattle.literals.proofs.number.exp_gap_step.Reads as exp-gap-step-reads
+use Rattle.literals.proofs.number.exp_letter_step.Reads as exp-letter-step-reads
 use Rattle.literals.proofs.number.exp_sign_step.Reads as exp-sign-step-reads
-use Rattle.literals.proofs.number.fraction_gap_step.Reads as fraction-gap-step-reads
+use Rattle.literals.proofs.number.exp_underscore_step.Reads as exp-underscore-step-reads
 use Rattle.literals.proofs.number.fraction_step.Reads as fraction-step-reads
-use Rattle.literals.proofs.number.gap_step.Reads as gap-step-reads
-use Rattle.literals.proofs.number.mark_step.Reads as mark-step-reads
+use Rattle.literals.proofs.number.fraction_underscore_step.Reads as fraction-underscore-step-reads
 use Rattle.literals.proofs.number.prefix_step.Reads as prefix-step-reads
 use Rattle.literals.proofs.number.sign_step.Reads as sign-step-reads
 use Rattle.literals.proofs.number.start_step.Reads as start-step-reads
+use Rattle.literals.proofs.number.underscore_step.Reads as underscore-step-reads
 use Rattle.literals.proofs.number.zero_step.Reads as zero-step-reads
+
+
 
 enum-told : tie.Need-enum-told
 enum-told c = search needs
@@ -52,8 +54,8 @@ digit-step-requires c κs = search needs
 enum-known-state-4 : tie.Need-enum-known-state-4
 enum-known-state-4 c = search needs
 
-gap-step-requires : tie.Need-gap-step-requires
-gap-step-requires c κs = search needs
+underscore-step-requires : tie.Need-underscore-step-requires
+underscore-step-requires c κs = search needs
 
 enum-known-state-5 : tie.Need-enum-known-state-5
 enum-known-state-5 c = search needs
@@ -76,8 +78,8 @@ based-step-requires c κs = search needs
 enum-known-state-8 : tie.Need-enum-known-state-8
 enum-known-state-8 c = search needs
 
-based-gap-step-requires : tie.Need-based-gap-step-requires
-based-gap-step-requires c κs = search needs
+based-underscore-step-requires : tie.Need-based-underscore-step-requires
+based-underscore-step-requires c κs = search needs
 
 enum-known-state-9 : tie.Need-enum-known-state-9
 enum-known-state-9 c = search needs
@@ -89,15 +91,15 @@ fraction-step-requires c κs = rw (c .before .state9 .given .1) at (c .before .b
 enum-known-state-10 : tie.Need-enum-known-state-10
 enum-known-state-10 c = search needs
 
-fraction-gap-step-requires : tie.Need-fraction-gap-step-requires
+fraction-underscore-step-requires : tie.Need-fraction-underscore-step-requires
 unfolding placesOf
-fraction-gap-step-requires c κs = rw (c .before .state10 .given .1) at (c .before .before .before .pre)
+fraction-underscore-step-requires c κs = rw (c .before .state10 .given .1) at (c .before .before .before .pre)
 
 enum-known-state-11 : tie.Need-enum-known-state-11
 enum-known-state-11 c = search needs
 
-mark-step-requires : tie.Need-mark-step-requires
-mark-step-requires c κs = search needs
+exp-letter-step-requires : tie.Need-exp-letter-step-requires
+exp-letter-step-requires c κs = search needs
 
 enum-known-state-12 : tie.Need-enum-known-state-12
 enum-known-state-12 c = search needs
@@ -114,8 +116,8 @@ exp-digit-step-requires c κs = search needs
 enum-known-state-14 : tie.Need-enum-known-state-14
 enum-known-state-14 c = search needs
 
-exp-gap-step-requires : tie.Need-exp-gap-step-requires
-exp-gap-step-requires c κs = search needs
+exp-underscore-step-requires : tie.Need-exp-underscore-step-requires
+exp-underscore-step-requires c κs = search needs
 
 returns : tie.Need-returns
 returns c = rw (c .before .enum-told .given .1) (c .start-step .ensures)
@@ -134,7 +136,7 @@ returns-5 : tie.Need-returns-5
 returns-5 c = rw (c .before .before .state3 .given .1) (c .digit-step .ensures)
 
 returns-6 : tie.Need-returns-6
-returns-6 c = rw (c .before .before .state4 .given .1) (c .gap-step .ensures)
+returns-6 c = rw (c .before .before .state4 .given .1) (c .underscore-step .ensures)
 
 returns-7 : tie.Need-returns-7
 returns-7 c = rw (c .before .before .state5 .given .1) (c .dot-step .ensures)
@@ -146,16 +148,16 @@ returns-9 : tie.Need-returns-9
 returns-9 c = rw (c .before .before .state7 .given .1) (c .based-step .ensures)
 
 returns-10 : tie.Need-returns-10
-returns-10 c = rw (c .before .before .state8 .given .1) (c .based-gap-step .ensures)
+returns-10 c = rw (c .before .before .state8 .given .1) (c .based-underscore-step .ensures)
 
 returns-11 : tie.Need-returns-11
 returns-11 c = rw (c .before .before .state9 .given .1) (c .fraction-step .ensures)
 
 returns-12 : tie.Need-returns-12
-returns-12 c = rw (c .before .before .state10 .given .1) (c .fraction-gap-step .ensures)
+returns-12 c = rw (c .before .before .state10 .given .1) (c .fraction-underscore-step .ensures)
 
 returns-13 : tie.Need-returns-13
-returns-13 c = rw (c .before .before .state11 .given .1) (c .mark-step .ensures)
+returns-13 c = rw (c .before .before .state11 .given .1) (c .exp-letter-step .ensures)
 
 returns-14 : tie.Need-returns-14
 returns-14 c = rw (c .before .before .state12 .given .1) (c .exp-sign-step .ensures)
@@ -164,7 +166,7 @@ returns-15 : tie.Need-returns-15
 returns-15 c = rw (c .before .before .state13 .given .1) (c .exp-digit-step .ensures)
 
 returns-16 : tie.Need-returns-16
-returns-16 c = rw (c .before .before .state14 .given .1) (c .exp-gap-step .ensures)
+returns-16 c = rw (c .before .before .state14 .given .1) (c .exp-underscore-step .ensures)
 
 pub number-step-spec : {M : Type 1} → statement M
 number-step-spec =
@@ -180,7 +182,7 @@ number-step-spec =
     enum-known-state-3
     digit-step-requires
     enum-known-state-4
-    gap-step-requires
+    underscore-step-requires
     enum-known-state-5
     dot-step-requires
     enum-known-state-6
@@ -188,19 +190,19 @@ number-step-spec =
     enum-known-state-7
     based-step-requires
     enum-known-state-8
-    based-gap-step-requires
+    based-underscore-step-requires
     enum-known-state-9
     fraction-step-requires
     enum-known-state-10
-    fraction-gap-step-requires
+    fraction-underscore-step-requires
     enum-known-state-11
-    mark-step-requires
+    exp-letter-step-requires
     enum-known-state-12
     exp-sign-step-requires
     enum-known-state-13
     exp-digit-step-requires
     enum-known-state-14
-    exp-gap-step-requires
+    exp-underscore-step-requires
     returns
     returns-2
     returns-3

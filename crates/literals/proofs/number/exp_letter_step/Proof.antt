@@ -3,11 +3,13 @@ use borrow.Author.Tests.{eq-eqb, ne-eqb}
 use Rattle.literals.specs.Number.{numberStep}
 use Rattle.literals.specs.InternalNumber.{capped}
 use borrow.Author.Needs.{needs}
-use Rattle.literals.proofs.number.mark_step.Statement.{statement}
-use Rattle.literals.proofs.number.mark_step.Tie as tie
-use Rattle.literals.proofs.number.mark_step.Reads as reads
-use Rattle.literals.proofs.number.mark_step.Lts as lts
+use Rattle.literals.proofs.number.exp_letter_step.Statement.{statement}
+use Rattle.literals.proofs.number.exp_letter_step.Tie as tie
+use Rattle.literals.proofs.number.exp_letter_step.Reads as reads
+use Rattle.literals.proofs.number.exp_letter_step.Lts as lts
 use Rattle.literals.proofs.number.exp_sign_step.Reads as exp-sign-step-reads
+
+
 
 returns : tie.Need-returns
 unfolding numberStep capped
@@ -24,5 +26,5 @@ returns-3 : tie.Need-returns-3
 unfolding numberStep capped
 returns-3 c = rw (ne-eqb _ 43 (c .before .before .if1 .left), ne-eqb _ 45 (c .before .if2 .left)) (c .exp-sign-step .ensures)
 
-pub mark-step-spec : {M : Type 1} → statement M
-mark-step-spec = tie.close (tie.spec returns returns-2 exp-sign-step-requires returns-3)
+pub exp-letter-step-spec : {M : Type 1} → statement M
+exp-letter-step-spec = tie.close (tie.spec returns returns-2 exp-sign-step-requires returns-3)

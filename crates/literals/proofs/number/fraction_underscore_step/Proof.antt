@@ -6,12 +6,14 @@ use Rattle.literals.specs.InternalNumber.{capped}
 use Rattle.literals.proofs.NumberLaws.{cap-cap}
 use native.Mathlib.Numerals.{add-one}
 use borrow.Author.Needs.{needs}
-use Rattle.literals.proofs.number.fraction_gap_step.Statement.{statement}
-use Rattle.literals.proofs.number.fraction_gap_step.Tie as tie
-use Rattle.literals.proofs.number.fraction_gap_step.Reads as reads
-use Rattle.literals.proofs.number.fraction_gap_step.Lts as lts
+use Rattle.literals.proofs.number.fraction_underscore_step.Statement.{statement}
+use Rattle.literals.proofs.number.fraction_underscore_step.Tie as tie
+use Rattle.literals.proofs.number.fraction_underscore_step.Reads as reads
+use Rattle.literals.proofs.number.fraction_underscore_step.Lts as lts
 use Rattle.literals.proofs.number.and_digit.Reads as and-digit-reads
 use Rattle.literals.proofs.number.digit_of.Reads as digit-of-reads
+
+
 
 digit-of-requires : tie.Need-digit-of-requires
 digit-of-requires c κs = search needs
@@ -30,6 +32,6 @@ returns-2 : tie.Need-returns-2
 unfolding numberStep capped
 returns-2 c = rw (le-ltb (digitValue (c .before .before .args .b)) 10 (omega arith))
 
-pub fraction-gap-step-spec : {M : Type 1} → statement M
-fraction-gap-step-spec =
+pub fraction-underscore-step-spec : {M : Type 1} → statement M
+fraction-underscore-step-spec =
     tie.close (tie.spec digit-of-requires and-digit-requires add-t8 returns returns-2)

@@ -5,12 +5,14 @@ use Rattle.literals.specs.Number.{numberStep}
 use Rattle.literals.specs.InternalNumber.{capped}
 use Rattle.literals.proofs.NumberLaws.{cap-cap}
 use borrow.Author.Needs.{needs}
-use Rattle.literals.proofs.number.gap_step.Statement.{statement}
-use Rattle.literals.proofs.number.gap_step.Tie as tie
-use Rattle.literals.proofs.number.gap_step.Reads as reads
-use Rattle.literals.proofs.number.gap_step.Lts as lts
+use Rattle.literals.proofs.number.underscore_step.Statement.{statement}
+use Rattle.literals.proofs.number.underscore_step.Tie as tie
+use Rattle.literals.proofs.number.underscore_step.Reads as reads
+use Rattle.literals.proofs.number.underscore_step.Lts as lts
 use Rattle.literals.proofs.number.and_digit.Reads as and-digit-reads
 use Rattle.literals.proofs.number.digit_of.Reads as digit-of-reads
+
+
 
 digit-of-requires : tie.Need-digit-of-requires
 digit-of-requires c κs = search needs
@@ -26,5 +28,5 @@ returns-2 : tie.Need-returns-2
 unfolding numberStep capped
 returns-2 c = rw (le-ltb (digitValue (c .before .before .args .b)) 10 (omega arith))
 
-pub gap-step-spec : {M : Type 1} → statement M
-gap-step-spec = tie.close (tie.spec digit-of-requires and-digit-requires returns returns-2)
+pub underscore-step-spec : {M : Type 1} → statement M
+underscore-step-spec = tie.close (tie.spec digit-of-requires and-digit-requires returns returns-2)
