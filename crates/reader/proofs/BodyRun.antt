@@ -34,7 +34,8 @@ use Rattle.reader.specs.Internal.Tokens.{beginsAt}
 use Rattle.reader.specs.Internal.Values.{spanAt, labelOf, SpansApart, freshDue, rowOf, branchWords, runFrom, nodesAt, opened, openedHere, Chain, slotOf, innerAt, Known, Look, Valued, Ends, Refuses, ItemIs, Ready, Roomy, Took, Stops, RanIs, openedBy, ReadAs}
 use Rattle.reader.proofs.ItemRun.{Follows, Closes, FollowsNot}
 use Rattle.reader.proofs.SizeLaws.{sizes-snoc, count-snoc}
-use Rattle.reader.proofs.KeyWalk.{chain-more, getD-sets}
+use Rattle.text.proofs.ListLaws.{getD-before-sets}
+use Rattle.reader.proofs.KeyWalk.{chain-more}
 use Rattle.reader.proofs.RowLaws.{rows-child, rows-branch, size-pos, row-says}
 
 pub record Body (sw : Switches) (limits : Limits) (s : List ℕ) (kind : Kind) (l : Label) (ω : List Frame → Outcome) (o d n : ℕ) (tin : List ℕ) (ts : Forest) (ks : List (List ℕ)) (τ : List Frame → Config) (i m z : ℕ) (tab : List ℕ) : Type 0 where
@@ -123,7 +124,7 @@ module _ {sw : Switches} {limits : Limits} {s : List ℕ} {kind : Kind} {l : Lab
   body-kept : {ts : Forest} {ks : List (List ℕ)} {τ : List Frame → Config} {i m z : ℕ} {tab : List ℕ} → Body sw limits s kind l ω o d n tin ts ks τ i m z tab
       → (x : ℕ) → x < nodeWords * n → getD tab x 0 ≡ getD tin x 0
   body-kept {ts} B x h =
-      ap (λ (u : List ℕ). getD u x 0) (B .wrote) ∙ getD-sets (rowsAll n (n + 1) ts) tin x (nodeWords * (n + 1)) (omega arith)
+      ap (λ (u : List ℕ). getD u x 0) (B .wrote) ∙ getD-before-sets (rowsAll n (n + 1) ts) tin x (nodeWords * (n + 1)) (omega arith)
 
   pub body-look : {ts : Forest} {ks : List (List ℕ)} {i : ℕ} {tab : List ℕ} {c : Children} → c .first ≡ n + 1 → length s ≤ maxText
       → Within sw limits s kind l ω o d n tin ts ks i (c .next) (c .count) tab → Look sw s kind tab c i
@@ -158,7 +159,7 @@ module _ {sw : Switches} {limits : Limits} {s : List ℕ} {kind : Kind} {l : Lab
             subst (λ (js : List (List ℕ)). Chain sw s out (n + 1) e js) (sym (I .added h ks))
             (subst (λ (x : ℕ). Chain sw s out (n + 1) x (ks ++ (I .content ∷ []))) (sym g)
             (chain-more sw s tab out m (m + size (T .tree)) a b (I .content)
-            (λ x lt. ap (λ (u : List ℕ). getD u x 0) (T .wrote) ∙ getD-sets (rows n m (T .tree)) tab x (nodeWords * m) lt)
+            (λ x lt. ap (λ (u : List ℕ). getD u x 0) (T .wrote) ∙ getD-before-sets (rows n m (T .tree)) tab x (nodeWords * m) lt)
             L
             (row-says tab out n m a b (T .tree) (T .keyed) (I .apart) (omega (arith, B .long)) (T .wrote))
             (omega (arith, B .long)) (omega arith) (I .key h) (n + 1) ks (B .chained h)));

@@ -28,6 +28,7 @@ use Rattle.literals.specs.Number.{numberStep, most, signedBy, asInteger, asDeci
 use Rattle.lexer.specs.Token as L
 use Rattle.lexer.specs.Token.{Form, Item, item, itemAt}
 use Rattle.lexer.proofs.ItemCases.{item-case}
+use Rattle.text.proofs.ListLaws.{take-at-most}
 use Rattle.reader.specs.Internal.Tokens.{DecimalFits}
 
 -- ---- a content is no longer than its body
@@ -138,11 +139,6 @@ ItemKeeps b s (L.gap more) = Unit {0}
 ItemKeeps b s (L.token form more) = Keeps b s more form
 ItemKeeps b s (L.fault number) = Unit {0}
 
-take-le : (n : ℕ) (s : List ℕ) → length (take n s) ≤ length s
-take-le zero s = zero-le
-take-le (suc n) [] = zero-le
-take-le (suc n) (b ∷ s) = suc-le-suc (take-le n s)
-
 string-keeps : (b : ℕ) (s : List ℕ) (isText : Bool) (c : List ℕ) (more : ℕ) → length c ≤ length s → ItemKeeps b s (L.token (L.stringForm isText c) more)
 unfolding ItemKeeps Keeps
 string-keeps b s true c more h = h
@@ -158,7 +154,7 @@ item-keeps sw b s =
       of-string = λ isText body head k m c q h e.
           let l = take (m - suc k) (drop head s) in
           let z = subst (Short (length l)) e (content-short sw isText body l) in
-          let t = take-le (m - suc k) (drop head s) in
+          let t = take-at-most (m - suc k) (drop head s) in
           let d = length-drop head s in
           string-keeps b s isText c (head + m) (omega arith);
       of-integer = λ z e. subst Ranged e (meaning-ranged (feed numberStep Start (b ∷ take (front isNumberByte s) s)));

@@ -13,6 +13,9 @@ use Rattle.text.specs.declared.switches.Switches.{Switches}
 use Rattle.text.specs.Bytes.{sameBytes}
 use Rattle.literals.specs.declared.decoder.Body.{Body}
 use Rattle.literals.specs.Content.{content, sameContent}
+use Rattle.lexer.specs.declared.token.Part.{Part}
+use Rattle.lexer.specs.Opening.{partOf}
+use Rattle.lexer.proofs.PartLaws.{PartIs, part-holds}
 use Rattle.lexer.specs.Token.{tokenContent}
 use Rattle.lexer.specs.Internal.{Keyed}
 use Rattle.reader.specs.Tree.{nodeWords}
@@ -106,22 +109,14 @@ pub same-told : (sw : Switches) (s : List ℕ) (a e : ℕ) (v : List ℕ) (body 
 unfolding sameContent
 same-told sw s a e v body t w r p q h = h ∙ (λ i. sameContent (p .holds i) (q i))
 
+-- where the content of a key stands
+pub key-part : (sw : Switches) (s : List ℕ) (a e : ℕ) (w : List ℕ) → KeyAt sw s a e w → (p : Part) → p ≡ partOf sw (bytesAt s a e) → PartIs sw (bytesAt s a e) p
+key-part sw s a e w k p q = subst (PartIs sw (bytesAt s a e)) (sym q) (part-holds sw (bytesAt s a e) (record { content = w; is = k .holds }))
+
 pub keyed : (sw : Switches) (s : List ℕ) (a e : ℕ) (w : List ℕ) → KeyAt sw s a e w → Keyed sw (bytesAt s a e)
 keyed sw s a e w k = record { content = w; is = k .holds }
 
--- ---- words before those that are written stay, and those that are written are there
-
-pub getD-sets : (vs l : List ℕ) (i j : ℕ) → i < j → getD (sets l j vs) i 0 ≡ getD l i 0
-getD-sets [] l i j h = refl
-getD-sets (v ∷ vs) l i j h = getD-sets vs (set l j v) i (suc j) (omega arith) ∙ getD-set-other l j i v 0 (omega arith)
-
-pub getD-in : (vs l : List ℕ) (j k : ℕ) → k < length vs → j + length vs ≤ length l → getD (sets l j vs) (j + k) 0 ≡ getD vs k 0
-getD-in [] l j k h g = let z : ⊥ = omega arith in absurd z
-getD-in (v ∷ vs) l j zero h g = ap (λ (i : ℕ). getD (sets (set l j v) (suc j) vs) i 0) (add-zero j) ∙ getD-sets vs (set l j v) j (suc j) (omega arith) ∙ getD-set-same l j v 0 (omega arith)
-getD-in (v ∷ vs) l j (suc k) h g = ap (λ (i : ℕ). getD (sets (set l j v) (suc j) vs) i 0) next ∙ getD-in vs (set l j v) (suc j) k (omega arith) (simp length-set (omega arith))
-  where
-    next : j + suc k ≡ suc j + k
-    next = omega arith
+-- ---- one child more
 
 -- the words of a row that the walk reads
 pub record RowSays (tab : List ℕ) (x next a b : ℕ) : Type 0 where

@@ -19,6 +19,7 @@ use Rattle.lexer.specs.declared.item.Next.{Next}
 use Rattle.lexer.specs.declared.item.Next.the-variants as N
 use Rattle.lexer.specs.Token.{tokens, tokensFrom}
 use Rattle.lexer.specs.Answer.{firstOf, refusedNext}
+use Rattle.text.proofs.ListLaws.{drop-zeros}
 use Rattle.reader.specs.declared.tree.Limits.{Limits}
 use Rattle.reader.specs.declared.tree.Rules.{Rules}
 use Rattle.text.specs.declared.refusal.Refusal.{Refusal}
@@ -136,23 +137,12 @@ judged rules any s tin tout r front h e l T =
 
 -- ---- the table
 
-drop-replicate : (k n : ℕ) → drop {A = ℕ} k (replicate n 0) ≡ replicate (n - k) 0
-drop-replicate zero n = ap (λ (x : ℕ). replicate x 0) (sym (sub-zero n))
-drop-replicate (suc k) zero = ap (λ (x : ℕ). replicate x 0) nothing-left
-  where
-    nothing-left : 0 ≡ 0 - suc k
-    nothing-left = omega arith
-drop-replicate (suc k) (suc n) = drop-replicate k n ∙ ap (λ (x : ℕ). replicate x 0) less
-  where
-    less : n - k ≡ suc n - suc k
-    less = omega arith
-
 rows-on-zeros : (words : ℕ) (vs : List ℕ) → length vs ≤ words → sets (replicate words 0) 0 vs ≡ padded words vs
 unfolding padded
 rows-on-zeros words vs h =
     sets-eq vs (replicate words 0) 0 (rw (zero-add, length-replicate) h)
     ∙ ap (λ (k : ℕ). vs ++ drop k (replicate words 0)) (zero-add (length vs))
-    ∙ ap (λ (l : List ℕ). vs ++ l) (drop-replicate (length vs) words)
+    ∙ ap (λ (l : List ℕ). vs ++ l) (drop-zeros (length vs) words)
 
 limit-room : (words : ℕ) → nodeWords * nodeLimit words ≤ words
 unfolding nodeLimit

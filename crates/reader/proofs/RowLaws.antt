@@ -19,21 +19,8 @@ use Rattle.reader.specs.Internal.Tokens.{leafOf}
 use Rattle.reader.specs.Internal.Values.{spanAt, labelOf, SpansApart, rowWords}
 use Rattle.reader.proofs.TableLaws.{length-rows, length-rowsAll}
 use Rattle.reader.proofs.SizeLaws.{rowsAll-snoc}
-use Rattle.reader.proofs.KeyWalk.{getD-in, RowSays}
-
--- ---- stores
-
-pub sets-append : (l : List ℕ) (i : ℕ) (a b : List ℕ) → sets l i (a ++ b) ≡ sets (sets l i a) (i + length a) b
-sets-append l i [] b = rw add-zero
-sets-append l i (x ∷ a) b = sets-append (set l i x) (suc i) a b ∙ ap (λ (k : ℕ). sets (sets (set l i x) (suc i) a) k b) (omega arith)
-
-set-sets : (vs l : List ℕ) (i j a : ℕ) → i < j → set (sets l j vs) i a ≡ sets (set l i a) j vs
-set-sets [] l i j a h = refl
-set-sets (v ∷ vs) l i j a h = set-sets vs (set l j v) i (suc j) a (omega arith) ∙ ap (λ (x : List ℕ). sets x (suc j) vs) (set-comm l j i v a (omega arith))
-
-pub sets-swap : (us l : List ℕ) (i j : ℕ) (vs : List ℕ) → i + length us ≤ j → sets (sets l j vs) i us ≡ sets (sets l i us) j vs
-sets-swap [] l i j vs h = refl
-sets-swap (u ∷ us) l i j vs h = ap (λ (x : List ℕ). sets x (suc i) us) (set-sets vs l i j u (omega arith)) ∙ sets-swap us (set l i u) (suc i) j vs (omega arith)
+use Rattle.text.proofs.ListLaws.{set-again, sets-append, set-before-sets, sets-swap, getD-in-sets}
+use Rattle.reader.proofs.KeyWalk.{RowSays}
 
 -- ---- words
 
@@ -111,13 +98,8 @@ set-third : (l : List ℕ) (i a b c d x : ℕ) (vs : List ℕ) → set (sets l i
 set-third l i a b c d x vs =
     let e : i + 3 ≡ suc (suc (suc i)) = omega arith in
     rw e
-    (set-sets vs (set (set (set (set l i a) (suc i) b) (suc (suc i)) c) (suc (suc (suc i))) d) (suc (suc (suc i))) (suc (suc (suc (suc i)))) x (omega arith)
-    ∙ ap (λ (y : List ℕ). sets y (suc (suc (suc (suc i)))) vs) (set-set (set (set (set l i a) (suc i) b) (suc (suc i)) c) (suc (suc (suc i))) d x))
-  where
-    set-set : (y : List ℕ) (j u v : ℕ) → set (set y j u) j v ≡ set y j v
-    set-set [] j u v = refl
-    set-set (h ∷ y) zero u v = refl
-    set-set (h ∷ y) (suc j) u v = ap (λ (r : List ℕ). h ∷ r) (set-set y j u v)
+    (set-before-sets vs (set (set (set (set l i a) (suc i) b) (suc (suc i)) c) (suc (suc (suc i))) d) (suc (suc (suc i))) (suc (suc (suc (suc i)))) x (omega arith)
+    ∙ ap (λ (y : List ℕ). sets y (suc (suc (suc (suc i)))) vs) (set-again (set (set (set l i a) (suc i) b) (suc (suc i)) c) (suc (suc (suc i))) d x))
 
 pub stop-row : (tin tab out : List ℕ) (parent n stop : ℕ) (t : Tree) → tab ≡ sets tin (nodeWords * n) (rows parent n t) → out ≡ set tab (nodeWords * n + 3) stop
     → out ≡ sets tin (nodeWords * n) (rows parent n (withStop stop t))
@@ -196,4 +178,4 @@ row-says tab out parent m a b t e ok h w =
     word : (k : ℕ) → k < nodeWords * size t → getD out (nodeWords * m + k) 0 ≡ getD (rows parent m t) k 0
     word k l =
         ap (λ (x : List ℕ). getD x (nodeWords * m + k) 0) w
-        ∙ getD-in (rows parent m t) tab (nodeWords * m) k (omega (arith, length-rows parent m t)) (omega (arith, length-rows parent m t))
+        ∙ getD-in-sets (rows parent m t) tab (nodeWords * m) k (omega (arith, length-rows parent m t)) (omega (arith, length-rows parent m t))

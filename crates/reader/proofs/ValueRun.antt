@@ -34,7 +34,7 @@ use Rattle.reader.specs.Internal.Values.{spanAt, labelOf, SpansApart, na
 use Rattle.reader.proofs.StopLaws.{stops-size, stops-key, stops-start, stops-stop}
 use Rattle.reader.proofs.StepRun.{Peeked, Marked, Wants, NotMarked, Past, peek-run, mark-go, not-mark, mode-free, past-refuses}
 use Rattle.reader.proofs.ItemRun.{span-some}
-use Rattle.reader.proofs.KeyWalk.{getD-sets}
+use Rattle.text.proofs.ListLaws.{getD-before-sets}
 use Rattle.reader.proofs.RowLaws.{leaf-row, stop-row}
 use Rattle.reader.proofs.BodyRun.{no-node, count-one, node-left}
 
@@ -231,7 +231,7 @@ module _ (sw : Switches) (limits : Limits) (s : List ℕ) (start stop : ℕ) (fr
         name-shut-not number place w =
             record {
               ran = λ stack y. closed-run stack y ∙ w .ran limits (config stack (close (T .tree)) m) (close-wants stack);
-              kept = λ x h. ap (λ (l : List ℕ). getD l x 0) (T .wrote) ∙ getD-sets (rows parent n (T .tree)) tin x (nodeWords * n) h;
+              kept = λ x h. ap (λ (l : List ℕ). getD l x 0) (T .wrote) ∙ getD-before-sets (rows parent n (T .tree)) tin x (nodeWords * n) h;
             }
 
         pub name-took : p .name .stop ≡ 0 → (f : ℕ) → Marked sw s j 41 f → (last : List ℕ) → last ≡ set out (nodeWords * n + 3) f

@@ -28,8 +28,8 @@ pub(crate) fn find_key(
     let token = &text[start..stop];
     let part = part_of(sw, token);
     let body = part.body;
-    let from = part.from;
-    let to = part.to;
+    let from = part.span.start;
+    let to = part.span.stop;
     let own = &token[from..to];
     let mut x = children.first;
     while x < children.next {

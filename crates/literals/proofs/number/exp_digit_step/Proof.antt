@@ -10,8 +10,6 @@ use Rattle.literals.proofs.number.exp_digit_step.Reads as reads
 use Rattle.literals.proofs.number.exp_digit_step.Lts as lts
 use Rattle.literals.proofs.number.exp_underscore_step.Reads as exp-underscore-step-reads
 
-
-
 returns : tie.Need-returns
 unfolding digitValue numberStep capped
 returns c = rw (c .if1 .taken)

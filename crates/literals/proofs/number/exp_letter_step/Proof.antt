@@ -9,8 +9,6 @@ use Rattle.literals.proofs.number.exp_letter_step.Reads as reads
 use Rattle.literals.proofs.number.exp_letter_step.Lts as lts
 use Rattle.literals.proofs.number.exp_sign_step.Reads as exp-sign-step-reads
 
-
-
 returns : tie.Need-returns
 unfolding numberStep capped
 returns c = rw (eq-eqb _ 43 (c .if1 .taken), ne-eqb (c .before .args .b) 45 (λ e. omega arith))

@@ -13,8 +13,6 @@ use Rattle.literals.proofs.number.fraction_underscore_step.Lts as lts
 use Rattle.literals.proofs.number.and_digit.Reads as and-digit-reads
 use Rattle.literals.proofs.number.digit_of.Reads as digit-of-reads
 
-
-
 digit-of-requires : tie.Need-digit-of-requires
 digit-of-requires c κs = search needs
 

@@ -22,8 +22,6 @@ use Rattle.literals.proofs.number.start_step.Reads as start-step-reads
 use Rattle.literals.proofs.number.underscore_step.Reads as underscore-step-reads
 use Rattle.literals.proofs.number.zero_step.Reads as zero-step-reads
 
-
-
 enum-told : tie.Need-enum-told
 enum-told c = search needs
 

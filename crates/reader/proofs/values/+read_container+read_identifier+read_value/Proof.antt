@@ -40,8 +40,6 @@ use Rattle.reader.proofs.values.put_leaf.Reads as put-leaf-reads
 use Rattle.reader.proofs.values.+read_container+read_identifier+read_value.{statement}
 use Rattle.reader.proofs.values.+read_container+read_identifier+read_value.Tie.{close}
 
-
-
 abbrev μ-read-container : Measures 2 read-container-kinds.ps ℕ
 μ-read-container κs a = 2 * (length (a .1 .0 .now) - a .1 .1 .1 .1 .1 .0 .start)
 
@@ -158,10 +156,13 @@ read-container-child-due-requires t c κs = let w = node-left _ (c .before .befo
 
 read-container-read-value-requires : (t : ℕ) → read-container-lts.Need-read-value-requires (read-container-calls t) (read-container-at t) read-container.Post read-container-Inv-loop read-container-μ-loop
 read-container-read-value-requires t c κs = let I = value-is (c .before .before .before .before .before .before .before .loop .inv .2) (c .before .before .before .token .given .1) (c .before .before .before .before .before .next-item .ensures) in
-    let g : 2 * (length (c .before .before .before .before .before .before .before .before .before .before .before .before .before .before .before .before .before .args .text .now) - c .before .before .before .token .given .0 .0 .span .start) + 1 < t = omega (arith, c .before .before .before .before .before .before .before .before .before .before .before .before .before .before .before .before .before .pre .0, I .ahead, I .token .ordered, I .token .inside, c .before .before .before .before .before .before .before .loop .inv .3 .ahead) in
-    (g,
-    (fresh-ready (c .before .child-due .ensures) (record { room = omega (arith, c .before .before .before .before .before .before .before .loop .inv .3 .room, c .before .before .before .before .before .before .before .loop .inv .3 .long); small = c .before .before .before .before .before .before .before .before .before .before .before .before .before .before .before .before .before .pre .1 .0 .table .small }) (c .before .before .before .before .before .before .before .loop .inv .3 .below) (I .apart),
-    (I .token, c .before .before .before .before .before .before .before .before .before .before .before .before .before .before .before .before .before .pre .1 .1 .short)))
+    let g : 2 * (length (c .before .before .before .before .before .before .before .before .before .before .before .before .before .before .before .before .before .args .text .now) - c .before .before .before .token .given .0 .0 .span .start) + 1 < t = omega (arith, c .before .before .before .before .before .before .before .before .before .before .before .before .before .before .before .before .before .pre .0, I .ahead, I .token .ordered, I .token .inside, c .before .before .before .before .before .before .before .loop .inv .3 .ahead) in (
+      g,
+      (
+        fresh-ready (c .before .child-due .ensures) (record { room = omega (arith, c .before .before .before .before .before .before .before .loop .inv .3 .room, c .before .before .before .before .before .before .before .loop .inv .3 .long); small = c .before .before .before .before .before .before .before .before .before .before .before .before .before .before .before .before .before .pre .1 .0 .table .small }) (c .before .before .before .before .before .before .before .loop .inv .3 .below) (I .apart),
+        (I .token, c .before .before .before .before .before .before .before .before .before .before .before .before .before .before .before .before .before .pre .1 .1 .short),
+      ),
+    )
 
 read-container-enum-known-refusal-2 : (t : ℕ) → read-container-lts.Need-enum-known-refusal-2 (read-container-calls t) (read-container-at t) read-container.Post read-container-Inv-loop read-container-μ-loop
 read-container-enum-known-refusal-2 t c = search needs
@@ -232,9 +233,10 @@ read-identifier-enum-known-token t c = search needs
 
 read-identifier-read-value-requires : (t : ℕ) → read-identifier-lts.Need-read-value-requires (read-identifier-calls t) (read-identifier-at t) read-identifier.Post
 read-identifier-read-value-requires t c κs = let P = past-token (c .before .before .before .before .before .before .before .before .before .before .before .before .before .args .rules .sw) (c .before .before .before .before .before .before .before .before .before .before .before .before .before .args .text .now) (c .before .before .before .before .before .before .before .before .before .before .before .before .before .args .name .stop) 40 (c .before .before .before .before .before .before .before .before .before .before .before .before .before .pre .1 .1 .inside) _ (sym (c .before .before .before .before .token-after .ensures) ∙ c .before .before .token .given .1) in
-    let g : 2 * (length (c .before .before .before .before .before .before .before .before .before .before .before .before .before .args .text .now) - c .before .before .token .given .0 .0 .span .start) + 1 < t = omega (arith, c .before .before .before .before .before .before .before .before .before .before .before .before .before .pre .0, P .mark .ahead, P .mark .some, P .token .ahead, P .token .token .ordered, P .token .token .inside, c .before .before .before .before .before .before .before .before .before .before .before .before .before .pre .1 .1 .ordered) in
-    (g,
-    (named-ready (c .before .before .before .before .before .named-due .ensures) (c .before .before .before .before .before .before .before .before .before .before .before .before .before .pre .1 .0) (c .before .before .before .before .before .before .before .before .before .before .before .before .before .pre .1 .1) (c .before .before .before .before .before .before .if2 .left), (P .token .token, c .before .before .before .before .before .before .before .before .before .before .before .before .before .pre .1 .1 .short)))
+    let g : 2 * (length (c .before .before .before .before .before .before .before .before .before .before .before .before .before .args .text .now) - c .before .before .token .given .0 .0 .span .start) + 1 < t = omega (arith, c .before .before .before .before .before .before .before .before .before .before .before .before .before .pre .0, P .mark .ahead, P .mark .some, P .token .ahead, P .token .token .ordered, P .token .token .inside, c .before .before .before .before .before .before .before .before .before .before .before .before .before .pre .1 .1 .ordered) in (
+      g,
+      (named-ready (c .before .before .before .before .before .named-due .ensures) (c .before .before .before .before .before .before .before .before .before .before .before .before .before .pre .1 .0) (c .before .before .before .before .before .before .before .before .before .before .before .before .before .pre .1 .1) (c .before .before .before .before .before .before .if2 .left), (P .token .token, c .before .before .before .before .before .before .before .before .before .before .before .before .before .pre .1 .1 .short)),
+    )
 
 read-identifier-enum-known-refusal-2 : (t : ℕ) → read-identifier-lts.Need-enum-known-refusal-2 (read-identifier-calls t) (read-identifier-at t) read-identifier.Post
 read-identifier-enum-known-refusal-2 t c = search needs
