@@ -16,10 +16,10 @@ use Rattle.lexer.proofs.closing.block_step.Reads as block-step-reads
 use Rattle.lexer.proofs.closing.is_shut.Reads as is-shut-reads
 
 abbrev Inv-loop : tie.InvT-loop
-Inv-loop text from c₀ i₀ c i = (from ≤ i) × (blockRead c + from ≤ i) × (block (drop from text) ≡ feed blockStep c (drop i text))
+Inv-loop text from state₀ i₀ state i = (from ≤ i) × (blockRead state + from ≤ i) × (block (drop from text) ≡ feed blockStep state (drop i text))
 
 abbrev μ-loop : tie.MeasureT-loop
-μ-loop text from c₀ i₀ c i = length text - i
+μ-loop text from state₀ i₀ state i = length text - i
 
 loop-holds : tie.Need-loop-holds Inv-loop μ-loop
 unfolding block blockRead
@@ -35,7 +35,7 @@ is-shut-requires : tie.Need-is-shut-requires Inv-loop μ-loop
 is-shut-requires c κs = search needs
 
 returns : tie.Need-returns Inv-loop μ-loop
-returns c = sym (c .before .before .before .before .before .loop .inv .2 ∙ feed-turn blockStep (c .before .before .before .before .before .loop .c) _ (c .before .before .before .before .before .before .before .args .text .now) (c .before .before .before .before .before .loop .i) (omega arith) (c .before .before .block-step .ensures) ∙ shut-stays (c .before .before .block-step .result) (sym (c .before .is-shut .ensures) ∙ c .if1 .taken) _)
+returns c = sym (c .before .before .before .before .before .loop .inv .2 ∙ feed-turn blockStep (c .before .before .before .before .before .loop .state) _ (c .before .before .before .before .before .before .before .args .text .now) (c .before .before .before .before .before .loop .i) (omega arith) (c .before .before .block-step .ensures) ∙ shut-stays (c .before .before .block-step .result) (sym (c .before .is-shut .ensures) ∙ c .if1 .taken) _)
 
 add-i : tie.Need-add-i Inv-loop μ-loop
 add-i c = omega arith
@@ -44,10 +44,10 @@ loop-less : tie.Need-loop-less Inv-loop μ-loop
 loop-less c = omega arith
 
 loop-again : tie.Need-loop-again Inv-loop μ-loop
-loop-again c = (omega arith, block-turn (c .before .before .before .before .before .loop .c) _ _ (c .before .before .before .before .before .before .before .args .from) (c .before .before .before .before .before .loop .i) (c .before .before .block-step .ensures) (c .before .before .before .before .before .loop .inv .1), c .before .before .before .before .before .loop .inv .2 ∙ feed-turn blockStep (c .before .before .before .before .before .loop .c) _ (c .before .before .before .before .before .before .before .args .text .now) (c .before .before .before .before .before .loop .i) (omega arith) (c .before .before .block-step .ensures))
+loop-again c = (omega arith, block-turn (c .before .before .before .before .before .loop .state) _ _ (c .before .before .before .before .before .before .before .args .from) (c .before .before .before .before .before .loop .i) (c .before .before .block-step .ensures) (c .before .before .before .before .before .loop .inv .1), c .before .before .before .before .before .loop .inv .2 ∙ feed-turn blockStep (c .before .before .before .before .before .loop .state) _ (c .before .before .before .before .before .before .before .args .text .now) (c .before .before .before .before .before .loop .i) (omega arith) (c .before .before .block-step .ensures))
 
 returns-2 : tie.Need-returns-2 Inv-loop μ-loop
-returns-2 c = sym (c .before .loop .inv .2 ∙ feed-done blockStep (c .before .loop .c) (c .before .before .before .args .text .now) (c .before .loop .i) (omega arith))
+returns-2 c = sym (c .before .loop .inv .2 ∙ feed-done blockStep (c .before .loop .state) (c .before .before .before .args .text .now) (c .before .loop .i) (omega arith))
 
 pub find-block-spec : {M : Type 1} → statement M
 find-block-spec =

@@ -18,10 +18,10 @@ use Rattle.lexer.proofs.closing.is_closed.Reads as is-closed-reads
 use Rattle.lexer.proofs.closing.plain_end.Reads as plain-end-reads
 
 abbrev Inv-loop : tie.InvT-loop
-Inv-loop text from escapes k start c₀ i₀ c i = (from ≤ i) × (closingRead c + 2 * from ≤ 2 * i) × (closing escapes k (drop from text) ≡ feed (closingStep escapes k) c (drop i text))
+Inv-loop text from escapes hashes start state₀ i₀ state i = (from ≤ i) × (closingRead state + 2 * from ≤ 2 * i) × (closing escapes hashes (drop from text) ≡ feed (closingStep escapes hashes) state (drop i text))
 
 abbrev μ-loop : tie.MeasureT-loop
-μ-loop text from escapes k start c₀ i₀ c i = length text - i
+μ-loop text from escapes hashes start state₀ i₀ state i = length text - i
 
 plain-end-requires : tie.Need-plain-end-requires Inv-loop μ-loop
 plain-end-requires c κs = search needs
@@ -31,7 +31,7 @@ sub-t10 c = omega arith
 
 loop-holds : tie.Need-loop-holds Inv-loop μ-loop
 unfolding closingRead
-loop-holds c = (omega arith, omega arith, plain-start (c .before .before .args .escapes) (c .before .before .args .k) (c .before .before .args .text .now) (c .before .before .args .from) _ (c .plain-end .ensures))
+loop-holds c = (omega arith, omega arith, plain-start (c .before .before .args .escapes) (c .before .before .args .hashes) (c .before .before .args .text .now) (c .before .before .args .from) _ (c .plain-end .ensures))
 
 shared-slice-read-closing-step : tie.Need-shared-slice-read-closing-step Inv-loop μ-loop
 shared-slice-read-closing-step c = search needs
@@ -43,13 +43,13 @@ is-closed-requires : tie.Need-is-closed-requires Inv-loop μ-loop
 is-closed-requires c κs = search needs
 
 returns : tie.Need-returns Inv-loop μ-loop
-returns c = sym (c .before .before .before .before .before .loop .inv .2 ∙ feed-turn (closingStep (c .before .before .before .before .before .before .before .before .args .escapes) (c .before .before .before .before .before .before .before .before .args .k)) (c .before .before .before .before .before .loop .c) _ (c .before .before .before .before .before .before .before .before .args .text .now) (c .before .before .before .before .before .loop .i) (omega arith) (c .before .before .closing-step .ensures) ∙ closed-stays (c .before .before .before .before .before .before .before .before .args .escapes) (c .before .before .before .before .before .before .before .before .args .k) (c .before .before .closing-step .result) (sym (c .before .is-closed .ensures) ∙ c .if1 .taken) _)
+returns c = sym (c .before .before .before .before .before .loop .inv .2 ∙ feed-turn (closingStep (c .before .before .before .before .before .before .before .before .args .escapes) (c .before .before .before .before .before .before .before .before .args .hashes)) (c .before .before .before .before .before .loop .state) _ (c .before .before .before .before .before .before .before .before .args .text .now) (c .before .before .before .before .before .loop .i) (omega arith) (c .before .before .closing-step .ensures) ∙ closed-stays (c .before .before .before .before .before .before .before .before .args .escapes) (c .before .before .before .before .before .before .before .before .args .hashes) (c .before .before .closing-step .result) (sym (c .before .is-closed .ensures) ∙ c .if1 .taken) _)
 
 add-i : tie.Need-add-i Inv-loop μ-loop
 add-i c = omega arith
 
-enum-known-c : tie.Need-enum-known-c Inv-loop μ-loop
-enum-known-c c = search needs
+enum-known-state : tie.Need-enum-known-state Inv-loop μ-loop
+enum-known-state c = search needs
 
 plain-end-requires-2 : tie.Need-plain-end-requires-2 Inv-loop μ-loop
 plain-end-requires-2 c κs = search needs
@@ -58,23 +58,23 @@ sub-t16 : tie.Need-sub-t16 Inv-loop μ-loop
 sub-t16 c = omega arith
 
 add-t17 : tie.Need-add-t17 Inv-loop μ-loop
-add-t17 c = let n = plain-counts (c .before .before .before .before .before .before .before .before .before .before .before .before .args .escapes) (c .before .before .before .before .before .before .before .before .before .before .before .before .args .k) (c .before .before .before .before .before .before .before .before .before .loop .c) (c .before .before .before .before .before .before .closing-step .result) _ (c .before .before .c .given .0 .0) (c .before .before .before .before .before .before .before .before .before .before .before .before .args .from) (c .before .before .before .before .before .before .before .before .before .loop .i) (c .before .before .before .before .before .before .closing-step .ensures) (c .before .before .before .before .before .before .before .before .before .loop .inv .1) (c .before .before .c .given .1) in let w = run-within plain (c .before .before .before .before .before .before .before .before .before .before .before .before .args .text .now) (c .before .before .before .before .before .before .before .before .before .loop .i + 1) (omega arith) in omega arith
+add-t17 c = let n = plain-counts (c .before .before .before .before .before .before .before .before .before .before .before .before .args .escapes) (c .before .before .before .before .before .before .before .before .before .before .before .before .args .hashes) (c .before .before .before .before .before .before .before .before .before .loop .state) (c .before .before .before .before .before .before .closing-step .result) _ (c .before .before .state .given .0 .0) (c .before .before .before .before .before .before .before .before .before .before .before .before .args .from) (c .before .before .before .before .before .before .before .before .before .loop .i) (c .before .before .before .before .before .before .closing-step .ensures) (c .before .before .before .before .before .before .before .before .before .loop .inv .1) (c .before .before .state .given .1) in let w = run-within plain (c .before .before .before .before .before .before .before .before .before .before .before .before .args .text .now) (c .before .before .before .before .before .before .before .before .before .loop .i + 1) (omega arith) in omega arith
 
 loop-less : tie.Need-loop-less Inv-loop μ-loop
 loop-less c = omega arith
 
 loop-again : tie.Need-loop-again Inv-loop μ-loop
 unfolding closingRead
-loop-again c = let n = plain-counts (c .before .before .before .before .before .before .before .before .before .before .before .before .args .escapes) (c .before .before .before .before .before .before .before .before .before .before .before .before .args .k) (c .before .before .before .before .before .before .before .before .before .loop .c) (c .before .before .before .before .before .before .closing-step .result) _ (c .before .before .c .given .0 .0) (c .before .before .before .before .before .before .before .before .before .before .before .before .args .from) (c .before .before .before .before .before .before .before .before .before .loop .i) (c .before .before .before .before .before .before .closing-step .ensures) (c .before .before .before .before .before .before .before .before .before .loop .inv .1) (c .before .before .c .given .1) in (omega arith, omega arith, c .before .before .before .before .before .before .before .before .before .loop .inv .2 ∙ feed-turn (closingStep (c .before .before .before .before .before .before .before .before .before .before .before .before .args .escapes) (c .before .before .before .before .before .before .before .before .before .before .before .before .args .k)) (c .before .before .before .before .before .before .before .before .before .loop .c) (c .before .before .before .before .before .before .closing-step .result) (c .before .before .before .before .before .before .before .before .before .before .before .before .args .text .now) (c .before .before .before .before .before .before .before .before .before .loop .i) (omega arith) (c .before .before .before .before .before .before .closing-step .ensures) ∙ plain-turn (c .before .before .before .before .before .before .before .before .before .before .before .before .args .escapes) (c .before .before .before .before .before .before .before .before .before .before .before .before .args .k) (c .before .before .before .before .before .before .before .before .before .before .before .before .args .text .now) (c .before .before .before .before .before .before .closing-step .result) (c .before .before .c .given .0 .0) (c .before .before .before .before .before .before .before .before .before .loop .i + 1) (c .plain-end2 .result) (c .before .before .c .given .1) (c .plain-end2 .ensures))
+loop-again c = let n = plain-counts (c .before .before .before .before .before .before .before .before .before .before .before .before .args .escapes) (c .before .before .before .before .before .before .before .before .before .before .before .before .args .hashes) (c .before .before .before .before .before .before .before .before .before .loop .state) (c .before .before .before .before .before .before .closing-step .result) _ (c .before .before .state .given .0 .0) (c .before .before .before .before .before .before .before .before .before .before .before .before .args .from) (c .before .before .before .before .before .before .before .before .before .loop .i) (c .before .before .before .before .before .before .closing-step .ensures) (c .before .before .before .before .before .before .before .before .before .loop .inv .1) (c .before .before .state .given .1) in (omega arith, omega arith, c .before .before .before .before .before .before .before .before .before .loop .inv .2 ∙ feed-turn (closingStep (c .before .before .before .before .before .before .before .before .before .before .before .before .args .escapes) (c .before .before .before .before .before .before .before .before .before .before .before .before .args .hashes)) (c .before .before .before .before .before .before .before .before .before .loop .state) (c .before .before .before .before .before .before .closing-step .result) (c .before .before .before .before .before .before .before .before .before .before .before .before .args .text .now) (c .before .before .before .before .before .before .before .before .before .loop .i) (omega arith) (c .before .before .before .before .before .before .closing-step .ensures) ∙ plain-turn (c .before .before .before .before .before .before .before .before .before .before .before .before .args .escapes) (c .before .before .before .before .before .before .before .before .before .before .before .before .args .hashes) (c .before .before .before .before .before .before .before .before .before .before .before .before .args .text .now) (c .before .before .before .before .before .before .closing-step .result) (c .before .before .state .given .0 .0) (c .before .before .before .before .before .before .before .before .before .loop .i + 1) (c .plain-end2 .result) (c .before .before .state .given .1) (c .plain-end2 .ensures))
 
 loop-less-2 : tie.Need-loop-less-2 Inv-loop μ-loop
 loop-less-2 c = omega arith
 
 loop-again-2 : tie.Need-loop-again-2 Inv-loop μ-loop
-loop-again-2 c = (omega arith, closing-turn (c .before .before .before .before .before .before .before .before .before .args .escapes) (c .before .before .before .before .before .before .before .before .before .args .k) (c .before .before .before .before .before .before .loop .c) _ _ (c .before .before .before .before .before .before .before .before .before .args .from) (c .before .before .before .before .before .before .loop .i) (c .before .before .before .closing-step .ensures) (c .before .before .before .before .before .before .loop .inv .1), c .before .before .before .before .before .before .loop .inv .2 ∙ feed-turn (closingStep (c .before .before .before .before .before .before .before .before .before .args .escapes) (c .before .before .before .before .before .before .before .before .before .args .k)) (c .before .before .before .before .before .before .loop .c) _ (c .before .before .before .before .before .before .before .before .before .args .text .now) (c .before .before .before .before .before .before .loop .i) (omega arith) (c .before .before .before .closing-step .ensures))
+loop-again-2 c = (omega arith, closing-turn (c .before .before .before .before .before .before .before .before .before .args .escapes) (c .before .before .before .before .before .before .before .before .before .args .hashes) (c .before .before .before .before .before .before .loop .state) _ _ (c .before .before .before .before .before .before .before .before .before .args .from) (c .before .before .before .before .before .before .loop .i) (c .before .before .before .closing-step .ensures) (c .before .before .before .before .before .before .loop .inv .1), c .before .before .before .before .before .before .loop .inv .2 ∙ feed-turn (closingStep (c .before .before .before .before .before .before .before .before .before .args .escapes) (c .before .before .before .before .before .before .before .before .before .args .hashes)) (c .before .before .before .before .before .before .loop .state) _ (c .before .before .before .before .before .before .before .before .before .args .text .now) (c .before .before .before .before .before .before .loop .i) (omega arith) (c .before .before .before .closing-step .ensures))
 
 returns-2 : tie.Need-returns-2 Inv-loop μ-loop
-returns-2 c = sym (c .before .loop .inv .2 ∙ feed-done (closingStep (c .before .before .before .before .args .escapes) (c .before .before .before .before .args .k)) (c .before .loop .c) (c .before .before .before .before .args .text .now) (c .before .loop .i) (omega arith))
+returns-2 c = sym (c .before .loop .inv .2 ∙ feed-done (closingStep (c .before .before .before .before .args .escapes) (c .before .before .before .before .args .hashes)) (c .before .loop .state) (c .before .before .before .before .args .text .now) (c .before .loop .i) (omega arith))
 
 pub find-closing-spec : {M : Type 1} → statement M
 find-closing-spec =
@@ -90,7 +90,7 @@ find-closing-spec =
     is-closed-requires
     returns
     add-i
-    enum-known-c
+    enum-known-state
     plain-end-requires-2
     sub-t16
     add-t17
