@@ -188,6 +188,10 @@ def store_skeleton(name, fn, text):
     write(stored(name, fn), text)
 
 
+def must_ask(name, fn):
+    return not os.path.exists(stored(name, fn)) and made_skeleton(name, fn) is None
+
+
 def skeleton(name, fn):
     """what `rt dev` prints for the function while it has no file, made without asking where that can be done"""
     if os.path.exists(stored(name, fn)):
@@ -202,7 +206,7 @@ def printed_skeleton(name, fn):
     if kept is not None:
         os.remove(path)
     try:
-        printed = run('rt', 'dev', name)
+        printed = run('rt', 'dev', name, '--allow-holes')
     finally:
         if kept is not None:
             write(path, kept)
@@ -237,8 +241,7 @@ def made_skeleton(name, fn):
             known = 'c κs' if re.search(r'-requires(-\d+)?$', part) else 'c'
             text += '\n%s : %s\n%s %s = ?\n' % (own[part], kind, own[part], known)
     theorem = os.path.basename(fn).replace('_', '-') + '-spec'
-    closed = textwrap.wrap('tie.close (tie.spec %s)' % ' '.join(own.values()), 116, break_long_words=False, break_on_hyphens=False)
-    return text + '\npub %s : {M : Type 1} → statement M\n%s =\n    %s\n' % (theorem, theorem, '\n    '.join(closed))
+    return text + '\npub %s : {M : Type 1} → statement M\n%s = tie.close (tie.spec %s)\n' % (theorem, theorem, ' '.join(own.values()))
 
 
 def loop_names(name, fn):
@@ -391,7 +394,8 @@ def with_named_calls(text, members):
 
 def with_imports(text, file):
     """the answers' imports and lines above the skeleton's, and no module under a short name that nothing uses"""
-    ours = [use for use in ('use borrow.Author.Needs.{needs}', 'use native.Mathlib.Omega.{arith}') if use not in text]
+    ours = ['use borrow.Author.Needs.{needs}', 'use native.Mathlib.Omega.{arith}']
+    text = text.replace(ours[0] + '\n', '')
     last_use = max(text.rfind('\nuse '), 0)
     cut = text.find('\n', last_use + 1) + 1
     text = '\n'.join(ours + file.uses) + '\n' + text[:cut] + ''.join(line + '\n' for line in [''] + file.above) + '\n' + text[cut:]
@@ -401,6 +405,15 @@ def with_imports(text, file):
         return m.group(0) if len(re.findall(r'(?<![\w.-])%s(?![\w-])' % re.escape(word), text)) > 1 else ''
 
     return re.sub(r'^use (?:\S+ as (\S+)|\S+\.\{(needs|arith)\})\n', used, text, flags=re.M)
+
+
+def with_closing(text):
+    """the needs at the end in as few lines as they fit in"""
+    def lines(m):
+        words = 'tie.close (tie.spec %s)' % ' '.join(m.group(1).split())
+        return ' =\n    ' + '\n    '.join(textwrap.wrap(words, 116, break_long_words=False, break_on_hyphens=False))
+
+    return re.sub(r' =\s+tie\.close\s+\(tie\.spec\s+([^()]*)\)', lines, text)
 
 
 def digest_of_proof(text):
@@ -417,7 +430,7 @@ def fill(name, fn):
     # the skeleton's places in the code would be wrong after the next edit of it
     text = re.sub(r'^-- src/\S+:\d+:\d+\n', '', skeleton(name, fn), flags=re.M)
     text, unused = answered(name, fn, with_named_calls(text, members_of(fn)), file)
-    text = with_imports(text, file)
+    text = with_closing(with_imports(text, file))
     first = '-- made by tools/proof.py from answers/%s (answers %s, proof %s): edit that file, not this one\n'
     path = proof_path(name, fn)
     write(path, first % (fn, digest(open(source, 'rb').read()), digest_of_proof(text)) + text)
@@ -441,7 +454,8 @@ def fill_all(names):
         except Unfilled as why:
             failed.append('%s: %s' % (name, why))
             continue
-        for fn in functions:
+        # those that `rt dev` must be asked for come last, when the proofs of their callees are there
+        for fn in sorted(functions, key=lambda one: must_ask(name, one)):
             try:
                 status = max(status, fill(name, fn))
             except Unfilled as why:
