@@ -21,7 +21,7 @@ use Rattle.literals.specs.InternalContent.{Sound}
 use Rattle.literals.proofs.StepLaws.{spent, good-next}
 use Rattle.literals.proofs.TallyLaws.{start-sound}
 use Rattle.literals.specs.declared.number.Number.{Number}
-use Rattle.literals.specs.declared.number.Number.the-variants.{Start, Bad, Sign, Zero, Digit, Gap, Dot, Prefix, Based, BasedGap, Fraction, FractionGap, Mark, ExpSign, ExpDigit, ExpGap}
+use Rattle.literals.specs.declared.number.Number.the-variants.{Start, Bad, Sign, Zero, Digit, Underscore, Dot, Prefix, Based, BasedUnderscore, Fraction, FractionUnderscore, ExpLetter, ExpSign, ExpDigit, ExpUnderscore}
 use Rattle.literals.specs.declared.number.Meaning.{Meaning}
 use Rattle.literals.specs.declared.number.Meaning.the-variants as N
 use Rattle.literals.specs.Number.{numberStep, most, signedBy, asInteger, asDecimal, meaning, number}
@@ -112,17 +112,17 @@ meaning-ranged Bad = tt
 meaning-ranged (Sign minus) = tt
 meaning-ranged (Zero signed minus) = integer-ranged minus 0
 meaning-ranged (Digit minus m) = integer-ranged minus m
-meaning-ranged (Gap minus m) = tt
+meaning-ranged (Underscore minus m) = tt
 meaning-ranged (Dot minus m) = tt
 meaning-ranged (Prefix base) = tt
 meaning-ranged (Based base m) = integer-ranged false m
-meaning-ranged (BasedGap base m) = tt
+meaning-ranged (BasedUnderscore base m) = tt
 meaning-ranged (Fraction minus m places) = decimal-ranged minus m (negℤ (pos places))
-meaning-ranged (FractionGap minus m places) = tt
-meaning-ranged (Mark minus m places) = tt
+meaning-ranged (FractionUnderscore minus m places) = tt
+meaning-ranged (ExpLetter minus m places) = tt
 meaning-ranged (ExpSign minus m places below) = tt
 meaning-ranged (ExpDigit minus m places below exp) = decimal-ranged minus m (signedBy below exp +ℤ negℤ (pos places))
-meaning-ranged (ExpGap minus m places below exp) = tt
+meaning-ranged (ExpUnderscore minus m places below exp) = tt
 
 -- ---- the token whose first byte is b and which has `more` bytes after it, of which s is what follows the first
 

@@ -10,7 +10,7 @@ use lib.IntN.{pos, negℤ, _+ℤ_}
 use Rattle.text.specs.Bytes.{feed, is, isDigitIn, digitValue}
 use Rattle.text.proofs.Choice.{cond-both, is-true}
 use Rattle.literals.specs.declared.number.Number.{Number}
-use Rattle.literals.specs.declared.number.Number.the-variants.{Start, Bad, Sign, Zero, Digit, Gap, Dot, Prefix, Based, BasedGap, Fraction, FractionGap, Mark, ExpSign, ExpDigit, ExpGap}
+use Rattle.literals.specs.declared.number.Number.the-variants.{Start, Bad, Sign, Zero, Digit, Underscore, Dot, Prefix, Based, BasedUnderscore, Fraction, FractionUnderscore, ExpLetter, ExpSign, ExpDigit, ExpUnderscore}
 use Rattle.literals.specs.declared.number.Meaning.{Meaning}
 use Rattle.literals.specs.declared.number.Meaning.the-variants.{Malformed}
 use Rattle.literals.specs.Number.{isSign, isZero, isOneToNine, isE, baseOf, numberStep, signedBy, asInteger, asDecimal, meaning, number}
@@ -31,23 +31,23 @@ data Read : List ℕ → Number → Type 0 where
   at-digit : (sg s : List ℕ) (minus : Bool) (c m count : ℕ) → OptionalSign sg minus → isOneToNine c ≡ true
       → Followed 10 (c ∷ []) (digitValue c) s m count → Read (sg ++ s) (Digit minus m)
   at-gap : (sg s : List ℕ) (minus : Bool) (c m count : ℕ) → OptionalSign sg minus → isOneToNine c ≡ true
-      → Followed 10 (c ∷ []) (digitValue c) s m count → Read ((sg ++ s) ++ (code "_" ∷ [])) (Gap minus m)
+      → Followed 10 (c ∷ []) (digitValue c) s m count → Read ((sg ++ s) ++ (code "_" ∷ [])) (Underscore minus m)
   at-dot : (sg s : List ℕ) (minus : Bool) (m : ℕ) → OptionalSign sg minus → IntegerPart s m → Read ((sg ++ s) ++ (code "." ∷ [])) (Dot minus m)
   at-fraction : (sg s : List ℕ) (minus : Bool) (m places : ℕ) → OptionalSign sg minus → WithFraction s m places
       → Read (sg ++ s) (Fraction minus m places)
   at-fraction-gap : (sg s : List ℕ) (minus : Bool) (m places : ℕ) → OptionalSign sg minus → WithFraction s m places
-      → Read ((sg ++ s) ++ (code "_" ∷ [])) (FractionGap minus m places)
+      → Read ((sg ++ s) ++ (code "_" ∷ [])) (FractionUnderscore minus m places)
   at-prefix : (c base : ℕ) → BaseLetter c base → Read (code "0" ∷ c ∷ []) (Prefix base)
   at-based : (c base : ℕ) (s : List ℕ) (n : ℕ) → BaseLetter c base → Digits base s n → Read (code "0" ∷ c ∷ s) (Based base n)
   at-based-gap : (c base : ℕ) (s : List ℕ) (n : ℕ) → BaseLetter c base → Digits base s n
-      → Read (code "0" ∷ c ∷ (s ++ (code "_" ∷ []))) (BasedGap base n)
-  at-mark : (front : List ℕ) (minus : Bool) (m places : ℕ) → UpToE front minus m places → Read front (Mark minus m places)
+      → Read (code "0" ∷ c ∷ (s ++ (code "_" ∷ []))) (BasedUnderscore base n)
+  at-mark : (front : List ℕ) (minus : Bool) (m places : ℕ) → UpToE front minus m places → Read front (ExpLetter minus m places)
   at-exponent-sign : (front : List ℕ) (minus : Bool) (m places c : ℕ) → UpToE front minus m places → isSign c ≡ true
       → Read (front ++ (c ∷ [])) (ExpSign minus m places (is "-" c))
   at-exponent : (front sg s : List ℕ) (minus : Bool) (m places : ℕ) (below : Bool) (n : ℕ) → UpToE front minus m places → OptionalSign sg below
       → Digits 10 s n → Read (front ++ (sg ++ s)) (ExpDigit minus m places below n)
   at-exponent-gap : (front sg s : List ℕ) (minus : Bool) (m places : ℕ) (below : Bool) (n : ℕ) → UpToE front minus m places
-      → OptionalSign sg below → Digits 10 s n → Read ((front ++ (sg ++ s)) ++ (code "_" ∷ [])) (ExpGap minus m places below n)
+      → OptionalSign sg below → Digits 10 s n → Read ((front ++ (sg ++ s)) ++ (code "_" ∷ [])) (ExpUnderscore minus m places below n)
   at-bad : (s : List ℕ) → Read s Bad
 
 -- ---- the next byte
@@ -86,9 +86,9 @@ dotted sg s minus m b o w t = from-byte (λ (c : ℕ). Read ((sg ++ s) ++ (c ∷
 
 -- an `e`
 marked : (sg s : List ℕ) (minus : Bool) (m places b : ℕ) → OptionalSign sg minus → Mantissa s m places → T (isE b)
-    → Read ((sg ++ s) ++ (b ∷ [])) (Mark minus m places)
+    → Read ((sg ++ s) ++ (b ∷ [])) (ExpLetter minus m places)
 marked sg s minus m places b o w t =
-    subst (λ (l : List ℕ). Read l (Mark minus m places)) (behind sg s b)
+    subst (λ (l : List ℕ). Read l (ExpLetter minus m places)) (behind sg s b)
     (at-mark (sg ++ (s ++ (b ∷ []))) minus m places (up-to-e sg s minus m places b o w (is-true (isE b) t)))
 
 -- the letter of a base
@@ -122,7 +122,7 @@ step-read s x b (at-zero sg minus (signed c e)) =
 step-read s x b (at-digit sg r minus c m count o e f) =
     digit-else 10 b (behind sg r b)
     (λ d. at-digit sg (r ++ (b ∷ [])) minus c (m * 10 + digitValue b) (suc count) o e (by-digit r [] m count b f no-underscore d))
-    (either (is "_" b) (λ t. from-byte (λ (y : ℕ). Read ((sg ++ r) ++ (y ∷ [])) (Gap minus m)) 95 b t (at-gap sg r minus c m count o e f))
+    (either (is "_" b) (λ t. from-byte (λ (y : ℕ). Read ((sg ++ r) ++ (y ∷ [])) (Underscore minus m)) 95 b t (at-gap sg r minus c m count o e f))
     (either (is "." b) (dotted sg r minus m b o (more-digits c r m count e f))
     (either (isE b) (marked sg r minus m 0 b o (no-fraction r m (more-digits c r m count e f))) (at-bad ((sg ++ r) ++ (b ∷ []))))))
 step-read s x b (at-gap sg r minus c m count o e f) =
@@ -139,7 +139,7 @@ step-read s x b (at-fraction sg r minus m places o w) =
     digit-else 10 b (behind sg r b)
     (λ d. at-fraction sg (r ++ (b ∷ [])) minus (m * 10 + digitValue b) (suc places) o (fraction-more r [] m places b w no-underscore d))
     (either (is "_" b)
-    (λ t. from-byte (λ (y : ℕ). Read ((sg ++ r) ++ (y ∷ [])) (FractionGap minus m places)) 95 b t (at-fraction-gap sg r minus m places o w))
+    (λ t. from-byte (λ (y : ℕ). Read ((sg ++ r) ++ (y ∷ [])) (FractionUnderscore minus m places)) 95 b t (at-fraction-gap sg r minus m places o w))
     (either (isE b) (marked sg r minus m places b o (fraction r m places w)) (at-bad ((sg ++ r) ++ (b ∷ [])))))
 step-read s x b (at-fraction-gap sg r minus m places o w) =
     digit-else 10 b (behind-gap sg r 95 b)
@@ -149,7 +149,7 @@ step-read s x b (at-prefix c base l) =
     digit-else base b refl (λ d. at-based c base (b ∷ []) (digitValue b) l (digit-alone base b d)) (at-bad (48 ∷ c ∷ b ∷ []))
 step-read s x b (at-based c base r n l d) =
     digit-else base b refl (λ e. at-based c base (r ++ (b ∷ [])) (n * base + digitValue b) l (digit-more base r [] n b d no-underscore e))
-    (either (is "_" b) (λ t. from-byte (λ (y : ℕ). Read (48 ∷ c ∷ (r ++ (y ∷ []))) (BasedGap base n)) 95 b t (at-based-gap c base r n l d))
+    (either (is "_" b) (λ t. from-byte (λ (y : ℕ). Read (48 ∷ c ∷ (r ++ (y ∷ []))) (BasedUnderscore base n)) 95 b t (at-based-gap c base r n l d))
     (at-bad (48 ∷ c ∷ (r ++ (b ∷ [])))))
 step-read s x b (at-based-gap c base r n l d) =
     digit-else base b (behind-gap (48 ∷ c ∷ []) r 95 b)
@@ -168,7 +168,7 @@ step-read s x b (at-exponent front sg r minus m places below n u o d) =
     (λ e. at-exponent front sg (r ++ (b ∷ [])) minus m places below (n * 10 + digitValue b) u o (digit-more 10 r [] n b d no-underscore e))
     (either (is "_" b)
     (λ t.
-    from-byte (λ (y : ℕ). Read ((front ++ (sg ++ r)) ++ (y ∷ [])) (ExpGap minus m places below n)) 95 b t
+    from-byte (λ (y : ℕ). Read ((front ++ (sg ++ r)) ++ (y ∷ [])) (ExpUnderscore minus m places below n)) 95 b t
     (at-exponent-gap front sg r minus m places below n u o d))
     (at-bad ((front ++ (sg ++ r)) ++ (b ∷ []))))
 step-read s x b (at-exponent-gap front sg r minus m places below n u o d) =

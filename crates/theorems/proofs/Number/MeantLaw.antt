@@ -12,7 +12,7 @@ use Rattle.text.specs.Bytes.{feed, is, isDigitIn, digitValue}
 use Rattle.text.proofs.Choice.{and-left}
 use Rattle.text.proofs.FeedLaws.{feed-append}
 use Rattle.literals.specs.declared.number.Number.{Number}
-use Rattle.literals.specs.declared.number.Number.the-variants.{Start, Sign, Zero, Digit, Gap, Dot, Prefix, Based, BasedGap, Fraction, FractionGap, Mark, ExpSign, ExpDigit, ExpGap}
+use Rattle.literals.specs.declared.number.Number.the-variants.{Start, Sign, Zero, Digit, Underscore, Dot, Prefix, Based, BasedUnderscore, Fraction, FractionUnderscore, ExpLetter, ExpSign, ExpDigit, ExpUnderscore}
 use Rattle.literals.specs.declared.number.Meaning.{Meaning}
 use Rattle.literals.specs.Number.{isSign, isOneToNine, isE, baseOf, numberStep, asInteger, meaning, number}
 use Rattle.theorems.specs.Number.{OptionalSign, none, signed, Digits, IntegerPart, one-digit, more-digits, BaseLetter, hex, octal, binary, WithFraction, with-fraction, Mantissa, no-fraction, fraction, UpToE, up-to-e, exponent, Numeral, integer, based, without-exponent, with-exponent}
@@ -56,17 +56,17 @@ module _ (minus : Bool) where
   record Ends (n : Number) (m : ℕ) : Type 0 where
     there : meaning n ≡ asInteger minus m
     dot : numberStep n (code ".") ≡ Dot minus m
-    mark : (b : ℕ) → isE b ≡ true → numberStep n b ≡ Mark minus m 0
+    mark : (b : ℕ) → isE b ≡ true → numberStep n b ≡ ExpLetter minus m 0
 
   zero-ends : (sg : Bool) → Ends (Zero sg minus) 0
   unfolding numberStep meaning
   zero-ends sg =
-      record { there = refl; dot = refl; mark = λ b e. e-case (λ (x : ℕ). numberStep (Zero sg minus) x ≡ Mark minus 0 0) b e refl refl }
+      record { there = refl; dot = refl; mark = λ b e. e-case (λ (x : ℕ). numberStep (Zero sg minus) x ≡ ExpLetter minus 0 0) b e refl refl }
 
   digit-ends : (m : ℕ) → Ends (Digit minus m) m
   unfolding numberStep digitValue meaning
   digit-ends m =
-      record { there = refl; dot = refl; mark = λ b e. e-case (λ (x : ℕ). numberStep (Digit minus m) x ≡ Mark minus m 0) b e refl refl }
+      record { there = refl; dot = refl; mark = λ b e. e-case (λ (x : ℕ). numberStep (Digit minus m) x ≡ ExpLetter minus m 0) b e refl refl }
 
   -- digits of the integer part, and of the fraction
   whole-digit : (m count b : ℕ) → isDigitIn 10 b ≡ true → numberStep (Digit minus m) b ≡ Digit minus (m * 10 + digitValue b)
@@ -77,7 +77,7 @@ module _ (minus : Bool) where
   unfolding numberStep digitValue
   whole-gap m count b e = gap
     where
-      gap : numberStep (Gap minus m) b ≡ Digit minus (m * 10 + digitValue b)
+      gap : numberStep (Underscore minus m) b ≡ Digit minus (m * 10 + digitValue b)
       gap = rw e
 
   dot-digit : (m b : ℕ) → isDigitIn 10 b ≡ true → numberStep (Dot minus m) b ≡ Fraction minus (m * 10 + digitValue b) 1
@@ -94,12 +94,12 @@ module _ (minus : Bool) where
   unfolding numberStep digitValue
   fraction-gap m count b e = gap
     where
-      gap : numberStep (FractionGap minus m (suc count)) b ≡ Fraction minus (m * 10 + digitValue b) (suc (suc count))
+      gap : numberStep (FractionUnderscore minus m (suc count)) b ≡ Fraction minus (m * 10 + digitValue b) (suc (suc count))
       gap = rw e
 
-  fraction-mark : (m places b : ℕ) → isE b ≡ true → numberStep (Fraction minus m places) b ≡ Mark minus m places
+  fraction-mark : (m places b : ℕ) → isE b ≡ true → numberStep (Fraction minus m places) b ≡ ExpLetter minus m places
   unfolding numberStep digitValue
-  fraction-mark m places b e = e-case (λ (x : ℕ). numberStep (Fraction minus m places) x ≡ Mark minus m places) b e refl refl
+  fraction-mark m places b e = e-case (λ (x : ℕ). numberStep (Fraction minus m places) x ≡ ExpLetter minus m places) b e refl refl
 
   -- from a state in which an integer part may begin
   module _ (n : Number) (start : Begins n minus) where
@@ -127,26 +127,26 @@ module _ (minus : Bool) where
         first =
             feed-append numberStep n whole (46 ∷ c ∷ []) ∙ ap (λ (x : Number). numberStep x c) (whole-fed whole w h .dot) ∙ dot-digit w c d
 
-    mantissa-fed : (s : List ℕ) (m places b : ℕ) → Mantissa s m places → isE b ≡ true → feed numberStep n (s ++ (b ∷ [])) ≡ Mark minus m places
+    mantissa-fed : (s : List ℕ) (m places b : ℕ) → Mantissa s m places → isE b ≡ true → feed numberStep n (s ++ (b ∷ [])) ≡ ExpLetter minus m places
     unfolding feed
     mantissa-fed s m places b (no-fraction t k w) e = feed-append numberStep n t (b ∷ []) ∙ whole-fed t k w .mark b e
     mantissa-fed s m places b (fraction t k p w) e =
         feed-append numberStep n t (b ∷ []) ∙ ap (λ (x : Number). numberStep x b) (fraction-fed t k p w) ∙ fraction-mark k p b e
 
-up-to-e-fed : (front : List ℕ) (minus : Bool) (m places : ℕ) → UpToE front minus m places → feed numberStep Start front ≡ Mark minus m places
+up-to-e-fed : (front : List ℕ) (minus : Bool) (m places : ℕ) → UpToE front minus m places → feed numberStep Start front ≡ ExpLetter minus m places
 up-to-e-fed front minus m places (up-to-e sg s neg k p b o d e) =
     feed-append numberStep Start sg (s ++ (b ∷ [])) ∙ mantissa-fed neg (feed numberStep Start sg) (sign-fed sg neg o) s k p b d e
 
 -- ---- an exponent
 
 module _ (minus : Bool) (m places : ℕ) where
-  mark-digit : (b : ℕ) → isDigitIn 10 b ≡ true → numberStep (Mark minus m places) b ≡ ExpDigit minus m places false (digitValue b)
+  mark-digit : (b : ℕ) → isDigitIn 10 b ≡ true → numberStep (ExpLetter minus m places) b ≡ ExpDigit minus m places false (digitValue b)
   unfolding numberStep
   mark-digit b e =
       let h = digit-least b e in
       rw (ne-eqb b 43 (λ f. omega arith), ne-eqb b 45 (λ f. omega arith), e)
 
-  mark-sign : (b : ℕ) → isSign b ≡ true → numberStep (Mark minus m places) b ≡ ExpSign minus m places (is "-" b)
+  mark-sign : (b : ℕ) → isSign b ≡ true → numberStep (ExpLetter minus m places) b ≡ ExpSign minus m places (is "-" b)
   unfolding numberStep
   mark-sign b e = rw e
 
@@ -164,14 +164,14 @@ module _ (minus : Bool) (m places : ℕ) where
   unfolding numberStep digitValue
   exponent-gap below n count b e = gap
     where
-      gap : numberStep (ExpGap minus m places below n) b ≡ ExpDigit minus m places below (n * 10 + digitValue b)
+      gap : numberStep (ExpUnderscore minus m places below n) b ≡ ExpDigit minus m places below (n * 10 + digitValue b)
       gap = rw e
 
   exponent-fed : (sg s : List ℕ) (below : Bool) (n : ℕ) → OptionalSign sg below → Digits 10 s n
-      → feed numberStep (Mark minus m places) (sg ++ s) ≡ ExpDigit minus m places below n
+      → feed numberStep (ExpLetter minus m places) (sg ++ s) ≡ ExpDigit minus m places below n
   unfolding feed
   exponent-fed sg s below n none d =
-      digits-fed 10 (Mark minus m places) (ExpDigit minus m places false) mark-digit (exponent-digit false) (exponent-gap false) s n d
+      digits-fed 10 (ExpLetter minus m places) (ExpDigit minus m places false) mark-digit (exponent-digit false) (exponent-gap false) s n d
   exponent-fed sg s below n (signed b e) d =
       ap (λ (x : Number). feed numberStep x s) (mark-sign b e)
       ∙ digits-fed 10 (ExpSign minus m places (is "-" b)) (ExpDigit minus m places (is "-" b)) (sign-digit (is "-" b)) (exponent-digit (is "-" b))
@@ -198,7 +198,7 @@ based-digit : (base m count b : ℕ) → isDigitIn base b ≡ true → numberSte
 unfolding numberStep
 based-digit base m count b e = rw e
 
-gap-digit : (base m b : ℕ) → isDigitIn base b ≡ true → numberStep (BasedGap base m) b ≡ Based base (m * base + digitValue b)
+gap-digit : (base m b : ℕ) → isDigitIn base b ≡ true → numberStep (BasedUnderscore base m) b ≡ Based base (m * base + digitValue b)
 unfolding numberStep
 gap-digit base m b e = rw e
 
@@ -209,7 +209,7 @@ letter-fed b base hex = refl
 letter-fed b base octal = refl
 letter-fed b base binary = refl
 
-based-gap : (b base : ℕ) → BaseLetter b base → (m : ℕ) → numberStep (Based base m) (code "_") ≡ BasedGap base m
+based-gap : (b base : ℕ) → BaseLetter b base → (m : ℕ) → numberStep (Based base m) (code "_") ≡ BasedUnderscore base m
 unfolding numberStep digitValue
 based-gap b base hex m = refl
 based-gap b base octal m = refl
