@@ -582,6 +582,7 @@ def main(words):
     return __doc__
 
 
+sys.stdout.reconfigure(line_buffering=True)
 try:
     sys.exit(main(sys.argv[1:]))
 except Unfilled as why:
