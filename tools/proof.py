@@ -24,8 +24,10 @@ A file of answers has lines
                     indented lines go on with it. In a cycle the need begins with its member, as `ping-returns`
   unfolding ..      the answers below, up to the next such line, open these definitions
   # ..              a remark
-A need without a line gets `search needs` or `omega arith`. A long path that an answer takes twice gets a name by `let`;
-no answer with a `where` gets one, as what stands below `where` would not see it.
+  plain             the answers below, up to a line `named`, get no names for paths
+A need without a line gets `search needs` or `omega arith`. A long path that an answer takes twice gets a name by `let`:
+not in an answer with a `where`, as what stands below `where` would not see it, and not in one with `omega` some twenty
+steps into the function, as it might then no longer come to the facts at the start.
 
 `fill` lays the file out as `rt fmt` does. The first line of what it makes has a digest of the answers and one of the rest
 of the file, in which spaces and line ends do not count. It has `rt check` prove the crates below, and asks `rt dev` what
@@ -298,8 +300,8 @@ class Answers:
     """a file of answers, taken apart"""
 
     def __init__(self, text):
-        self.uses, self.above, self.answers, self.opens = [], [], {}, {}
-        opens, need = '', None
+        self.uses, self.above, self.answers, self.opens, self.plain = [], [], {}, {}, set()
+        opens, need, plain = '', None, False
         for line in text.split('\n'):
             found = re.match(r'([^\s:]+) := (.*)', line)
             if line.startswith('use '):
@@ -308,15 +310,25 @@ class Answers:
                 self.above.append(line[2:])
             elif line.startswith('unfolding'):
                 opens = line if line.split()[1:] else ''
+            elif line in ('plain', 'named'):
+                plain = line == 'plain'
             elif found:
                 need = found.group(1)
+                self.plain.update([need] if plain else [])
                 self.answers[need] = found.group(2)
                 self.opens[need] = opens
             elif line.strip() and need and not line.startswith('#'):
                 self.answers[need] += '\n    ' + line.strip()
 
 
-def with_paths(answer, known):
+def may_name(answer, known):
+    """what stands below a `where` would not see a name; and `omega` reads names first and only so many records, so that
+    far down it would no longer come to the facts at the function's start"""
+    deep = max(way.count('.before') for _, _, way in known) >= 20
+    return not re.search(r'\bwhere\b', answer) and not (deep and re.search(r'\bomega\b', answer))
+
+
+def with_paths(answer, known, plain=False):
     """the answer with a path for each `@thing`, or a name where a long path would stand twice"""
     ways = {}
     for thing, _, way in reversed(known):
@@ -327,7 +339,7 @@ def with_paths(answer, known):
             raise Unfilled('nothing is called %s there; known: %s' % (thing, ' '.join(t for t, _, _ in known)))
     bound = ''
     for thing in dict.fromkeys(things):
-        if things.count(thing) > 1 and ways[thing].count('.before') > 1 and not re.search(r'\bwhere\b', answer):
+        if things.count(thing) > 1 and ways[thing].count('.before') > 1 and not plain and may_name(answer, known):
             name = 'the-' + thing
             while re.search(r'(?<![\w-])%s(?![\w-])' % re.escape(name), answer):
                 name += '-here'
@@ -358,7 +370,7 @@ def answered(name, fn, text, file):
             if member not in needs:
                 needs[member] = needs_of(name, member or fn)
             try:
-                body = with_paths(body, needs[member].get(need, []))
+                body = with_paths(body, needs[member].get(need, []), word in file.plain)
             except Unfilled as why:
                 raise Unfilled('%s: %s' % (word, why))
         return (file.opens[word] + '\n' if file.opens[word] else '') + (head + body).replace('= \n', '=\n')
