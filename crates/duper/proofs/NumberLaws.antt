@@ -10,7 +10,7 @@ use Rattle.reader.specs.Reading.{reading, answerOf}
 use Rattle.reader.specs.declared.read.Reading.{Reading}
 use Rattle.reader.specs.declared.read.Reading.the-variants as R
 use Rattle.reader.specs.Content as C
-use Rattle.reader.specs.Content.{Answer, answered, contentNumber}
+use Rattle.reader.specs.Content.{ContentAnswer, contentGiven, contentNumber}
 use Rattle.reader.specs.declared.content.Given.{Given}
 use Rattle.reader.specs.declared.content.Given.the-variants as G
 use Rattle.reader.proofs.PlaceBound.{PlaceWithin, place-law}

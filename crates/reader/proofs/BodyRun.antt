@@ -24,18 +24,18 @@ use Rattle.text.specs.declared.span.Span as CS
 use Rattle.lexer.specs.declared.item.Token as CT
 use Rattle.reader.specs.declared.items.Item.{Item}
 use Rattle.reader.specs.declared.items.Item.the-variants as I
-use Rattle.reader.specs.declared.values.Answer.{Answer}
-use Rattle.reader.specs.declared.values.Answer.the-variants as A
+use Rattle.reader.specs.declared.values.Progress.{Progress}
+use Rattle.reader.specs.declared.values.Progress.the-variants as A
 use Rattle.reader.specs.Tree.{Span, branch, Forest, nil, snoc, count, size, sizes, headOf, rows, rowsAll, nodeWords}
 use Rattle.reader.specs.Reading.{maxText}
 use Rattle.reader.specs.Syntax.{Label, label, Frame, frame, Slot, after, more, Mode, value, inside, Config, config, refuseIf, Begins, container, isObject, headBy, ended, finished, noNode, counted, valueStep, Outcome, afterStep}
 use Rattle.reader.specs.Internal.Values
 use Rattle.reader.specs.Internal.Tokens.{beginsAt}
-use Rattle.reader.specs.Internal.Values.{spanAt, labelOf, SpansApart, freshDue, rowOf, branchWords, runFrom, nodesAt, opened, openedHere, Chain, slotOf, innerAt, Known, Look, Valued, Ends, Refuses, ItemIs, Ready, Roomy, Took, Stops, RanIs, openedBy, ReadAs}
+use Rattle.reader.specs.Internal.Values.{spanAt, labelOf, SpansApart, freshDue, rowOf, branchWords, runFrom, nodesAt, opened, openedHere, SiblingKeys, slotOf, innerAt, Known, Look, Valued, Ends, Refuses, ItemIs, Ready, Roomy, ValueRead, ValueRefused, ProgressIs, openedBy, ReadAs}
 use Rattle.reader.proofs.ItemRun.{Follows, Closes, FollowsNot}
 use Rattle.reader.proofs.SizeLaws.{sizes-snoc, count-snoc}
 use Rattle.text.proofs.ListLaws.{getD-before-sets}
-use Rattle.reader.proofs.KeyWalk.{chain-more}
+use Rattle.reader.proofs.KeyWalk.{siblings-more}
 use Rattle.reader.proofs.RowLaws.{rows-child, rows-branch, size-pos, row-says}
 
 pub record Body (sw : Switches) (limits : Limits) (s : List ℕ) (kind : Kind) (l : Label) (ω : List Frame → Outcome) (o d n : ℕ) (tin : List ℕ) (ts : Forest) (ks : List (List ℕ)) (τ : List Frame → Config) (i m z : ℕ) (tab : List ℕ) : Type 0 where
@@ -48,7 +48,7 @@ pub record Body (sw : Switches) (limits : Limits) (s : List ℕ) (kind : Kind) (
   pub room : nodeWords * limits .nodes ≤ length tin
   pub long : length tab ≡ length tin
   pub wrote : tab ≡ sets tin (nodeWords * (n + 1)) (rowsAll n (n + 1) ts)
-  pub chained : isObject kind ≡ true → Chain sw s tab (n + 1) m ks
+  pub siblings : isObject kind ≡ true → SiblingKeys sw s tab (n + 1) m ks
   pub ran : (stack : List Frame) → length stack ≡ d → ω stack ≡ runFrom sw limits s i (τ stack)
 
 abbrev pub Within : (sw : Switches) (limits : Limits) (s : List ℕ) (kind : Kind) (l : Label) (ω : List Frame → Outcome) (o d n : ℕ) (tin : List ℕ) (ts : Forest) (ks : List (List ℕ)) (i m z : ℕ) (tab : List ℕ) → Type 0
@@ -56,13 +56,13 @@ Within sw limits s kind l ω o d n tin ts ks i m z tab = Body sw limits s kind l
 
 -- ---- answers by their cases
 
-module _ {rules : Rules} {s : List ℕ} {due : Due} {p : CS.Span} {b : Begins} {tin tout : List ℕ} {r : Answer} where
-  pub took : {j m : ℕ} → r ≡ A.Done j m → ReadAs rules s due p b tin tout r
-      → Took (rules .sw) (rules .limits) s (openedBy rules s due p b) (labelOf (due .label)) (p .start) (due .spot .depth) (due .spot .parent) (due .spot .node) tin tout j m
-  took e h = subst (RanIs (rules .sw) (rules .limits) s (openedBy rules s due p b) (labelOf (due .label)) (p .start) (due .spot .depth) (due .spot .parent) (due .spot .node) tin tout) e (h .is)
+module _ {rules : Rules} {s : List ℕ} {due : Due} {p : CS.Span} {b : Begins} {tin tout : List ℕ} {r : Progress} where
+  pub read-is : {j m : ℕ} → r ≡ A.Done j m → ReadAs rules s due p b tin tout r
+      → ValueRead (rules .sw) (rules .limits) s (openedBy rules s due p b) (labelOf (due .label)) (p .start) (due .spot .depth) (due .spot .parent) (due .spot .node) tin tout j m
+  read-is e h = subst (ProgressIs (rules .sw) (rules .limits) s (openedBy rules s due p b) (labelOf (due .label)) (p .start) (due .spot .depth) (due .spot .parent) (due .spot .node) tin tout) e (h .is)
 
-  pub stops : {f : Refusal} → r ≡ A.Refused f → ReadAs rules s due p b tin tout r → Stops (openedBy rules s due p b) (due .spot .depth) (due .spot .node) tin tout (f .number) (f .place)
-  stops e h = subst (RanIs (rules .sw) (rules .limits) s (openedBy rules s due p b) (labelOf (due .label)) (p .start) (due .spot .depth) (due .spot .parent) (due .spot .node) tin tout) e (h .is)
+  pub value-refused : {f : Refusal} → r ≡ A.Refused f → ReadAs rules s due p b tin tout r → ValueRefused (openedBy rules s due p b) (due .spot .depth) (due .spot .node) tin tout (f .number) (f .place)
+  value-refused e h = subst (ProgressIs (rules .sw) (rules .limits) s (openedBy rules s due p b) (labelOf (due .label)) (p .start) (due .spot .depth) (due .spot .parent) (due .spot .node) tin tout) e (h .is)
 
   -- the value that is due, or its token's beginning, by another name
   pub due-as : {other : Due} → due ≡ other → ReadAs rules s due p b tin tout r → ReadAs rules s other p b tin tout r
@@ -82,22 +82,22 @@ module _ {sw : Switches} {s : List ℕ} {kind : Kind} {tab : List ℕ} {c : Chil
   last-is {x} {j} f e h =
       subst (λ (y : ℕ). Ends sw s kind tab i y (c .next) (c .count) j) f (subst (ItemIs sw s kind tab i (c .first) (c .next) (c .count)) e (h .is))
 
-  pub refused-is : {x : ℕ} {f : Refusal} → c .first ≡ x → r ≡ I.Refused f → Values.ItemAt sw s kind tab c i r → Refuses sw s kind tab i x (c .next) (c .count) (f .number) (f .place)
-  refused-is {x} {f} q e h =
+  pub item-refused : {x : ℕ} {f : Refusal} → c .first ≡ x → r ≡ I.Refused f → Values.ItemAt sw s kind tab c i r → Refuses sw s kind tab i x (c .next) (c .count) (f .number) (f .place)
+  item-refused {x} {f} q e h =
       subst (λ (y : ℕ). Refuses sw s kind tab i y (c .next) (c .count) (f .number) (f .place)) q (subst (ItemIs sw s kind tab i (c .first) (c .next) (c .count)) e (h .is))
 
 -- ---- a value that is due afresh
 
-module _ {rules : Rules} {s : List ℕ} {any : Bool} {key : CS.Span} {spot : Spot} {due : Due} {p : CS.Span} {tin tout : List ℕ} {r : Answer} where
-  pub fresh-took : {j m : ℕ} → due ≡ freshDue any (p .start) key spot → r ≡ A.Done j m → ReadAs rules s due p (beginsAt (rules .sw) s p) tin tout r
-      → Took (rules .sw) (rules .limits) s (openedHere (rules .sw) (rules .limits) s (p .start) (p .stop) any (spanAt (key .start) (key .stop)) (spot .node)) (label (p .start) (spanAt (key .start) (key .stop)) none) (p .start) (spot .depth) (spot .parent) (spot .node) tin tout j m
+module _ {rules : Rules} {s : List ℕ} {any : Bool} {key : CS.Span} {spot : Spot} {due : Due} {p : CS.Span} {tin tout : List ℕ} {r : Progress} where
+  pub fresh-read : {j m : ℕ} → due ≡ freshDue any (p .start) key spot → r ≡ A.Done j m → ReadAs rules s due p (beginsAt (rules .sw) s p) tin tout r
+      → ValueRead (rules .sw) (rules .limits) s (openedHere (rules .sw) (rules .limits) s (p .start) (p .stop) any (spanAt (key .start) (key .stop)) (spot .node)) (label (p .start) (spanAt (key .start) (key .stop)) none) (p .start) (spot .depth) (spot .parent) (spot .node) tin tout j m
   unfolding labelOf spanAt
-  fresh-took e q h = took q (due-as {other = freshDue any (p .start) key spot} e h)
+  fresh-read e q h = read-is q (due-as {other = freshDue any (p .start) key spot} e h)
 
-  pub fresh-stops : {f : Refusal} → due ≡ freshDue any (p .start) key spot → r ≡ A.Refused f → ReadAs rules s due p (beginsAt (rules .sw) s p) tin tout r
-      → Stops (openedHere (rules .sw) (rules .limits) s (p .start) (p .stop) any (spanAt (key .start) (key .stop)) (spot .node)) (spot .depth) (spot .node) tin tout (f .number) (f .place)
+  pub fresh-refused : {f : Refusal} → due ≡ freshDue any (p .start) key spot → r ≡ A.Refused f → ReadAs rules s due p (beginsAt (rules .sw) s p) tin tout r
+      → ValueRefused (openedHere (rules .sw) (rules .limits) s (p .start) (p .stop) any (spanAt (key .start) (key .stop)) (spot .node)) (spot .depth) (spot .node) tin tout (f .number) (f .place)
   unfolding labelOf spanAt
-  fresh-stops e q h = stops q (due-as {other = freshDue any (p .start) key spot} e h)
+  fresh-refused e q h = value-refused q (due-as {other = freshDue any (p .start) key spot} e h)
 
 pub fresh-ready : {limits : Limits} {tab : List ℕ} {any : Bool} {start : ℕ} {key : CS.Span} {spot : Spot} {due : Due} → due ≡ freshDue any start key spot
     → Roomy limits tab → spot .node ≤ limits .nodes → (key .stop ≡ 0 → key .start ≡ 0) → Ready limits tab due
@@ -118,7 +118,7 @@ slot-more z h = let n : z ≡ 0 → ⊥ = λ q. omega arith in rw (ne-eqb z 0 n)
 
 module _ {sw : Switches} {limits : Limits} {s : List ℕ} {kind : Kind} {l : Label} {ω : List Frame → Outcome} {o d n : ℕ} {tin : List ℕ} where
   known : {ts : Forest} {ks : List (List ℕ)} {τ : List Frame → Config} {i m z : ℕ} {tab : List ℕ} → Body sw limits s kind l ω o d n tin ts ks τ i m z tab → Known sw s kind tab (n + 1) m ks
-  known B = record { chain = B .chained }
+  known B = record { siblings = B .siblings }
 
   -- the children's rows are behind the container's own
   body-kept : {ts : Forest} {ks : List (List ℕ)} {τ : List Frame → Config} {i m z : ℕ} {tab : List ℕ} → Body sw limits s kind l ω o d n tin ts ks τ i m z tab
@@ -129,12 +129,12 @@ module _ {sw : Switches} {limits : Limits} {s : List ℕ} {kind : Kind} {l : Lab
   pub body-look : {ts : Forest} {ks : List (List ℕ)} {i : ℕ} {tab : List ℕ} {c : Children} → c .first ≡ n + 1 → length s ≤ maxText
       → Within sw limits s kind l ω o d n tin ts ks i (c .next) (c .count) tab → Look sw s kind tab c i
   body-look {ts} {ks} {i} {tab} {c} e h B =
-      record { inside = B .inside; short = h; chained = λ q. record { keys = ks; chain = subst (λ (x : ℕ). Chain sw s tab x (c .next) ks) (sym e) (B .chained q) } }
+      record { inside = B .inside; short = h; siblings = λ q. record { keys = ks; siblings = subst (λ (x : ℕ). SiblingKeys sw s tab x (c .next) ks) (sym e) (B .siblings q) } }
 
   -- a child was read
   pub body-value : {ts : Forest} {ks : List (List ℕ)} {i m z : ℕ} {tab : List ℕ} {k : TokenKind} {start stop a b : ℕ} {out : List ℕ} {j e : ℕ}
       → Within sw limits s kind l ω o d n tin ts ks i m z tab → (I : Valued sw s kind tab i (n + 1) m z k start stop a b)
-      → (T : Took sw limits s (openedHere sw limits s start stop true (spanAt a b) m) (label start (spanAt a b) none) start (d + 1) n m tab out j e) → length out ≡ length tab
+      → (T : ValueRead sw limits s (openedHere sw limits s start stop true (spanAt a b) m) (label start (spanAt a b) none) start (d + 1) n m tab out j e) → length out ≡ length tab
       → Body sw limits s kind l ω o d n tin (snoc ts (T .tree)) (I .keys ks) (λ stack. config (frame kind l (snoc ts (T .tree)) (I .keys ks) ∷ stack) (inside after) e) j e (z + 1) out
   unfolding ended finished
   body-value {ts} {ks} {i} {m} {z} {tab} {k} {start} {stop} {a} {b} {out} {j} {e} B I T L =
@@ -154,15 +154,15 @@ module _ {sw : Switches} {limits : Limits} {s : List ℕ} {kind : Kind} {l : Lab
         room = r;
         long = L ∙ B .long;
         wrote = rows-child tin tab out n m ts (T .tree) (B .grew) (B .wrote) (T .wrote);
-        chained =
+        siblings =
             λ h.
-            subst (λ (js : List (List ℕ)). Chain sw s out (n + 1) e js) (sym (I .added h ks))
-            (subst (λ (x : ℕ). Chain sw s out (n + 1) x (ks ++ (I .content ∷ []))) (sym g)
-            (chain-more sw s tab out m (m + size (T .tree)) a b (I .content)
+            subst (λ (js : List (List ℕ)). SiblingKeys sw s out (n + 1) e js) (sym (I .added h ks))
+            (subst (λ (x : ℕ). SiblingKeys sw s out (n + 1) x (ks ++ (I .content ∷ []))) (sym g)
+            (siblings-more sw s tab out m (m + size (T .tree)) a b (I .content)
             (λ x lt. ap (λ (u : List ℕ). getD u x 0) (T .wrote) ∙ getD-before-sets (rows n m (T .tree)) tab x (nodeWords * m) lt)
             L
             (row-says tab out n m a b (T .tree) (T .keyed) (I .apart) (omega (arith, B .long)) (T .wrote))
-            (omega (arith, B .long)) (omega arith) (I .key h) (n + 1) ks (B .chained h)));
+            (omega (arith, B .long)) (omega arith) (I .key h) (n + 1) ks (B .siblings h)));
         ran =
             λ stack h.
             let u : suc (length stack) ≡ d + 1 = omega arith in
@@ -183,7 +183,7 @@ module _ {sw : Switches} {limits : Limits} {s : List ℕ} {kind : Kind} {l : Lab
         room = B .room;
         long = B .long;
         wrote = B .wrote;
-        chained = B .chained;
+        siblings = B .siblings;
         ran =
             λ stack h.
             B .ran stack h ∙ A .ran limits l ts ks stack m
@@ -205,7 +205,7 @@ module _ {sw : Switches} {limits : Limits} {s : List ℕ} {kind : Kind} {l : Lab
         room = B .room;
         long = B .long;
         wrote = B .wrote;
-        chained = B .chained;
+        siblings = B .siblings;
         ran = λ stack h. B .ran stack h ∙ A .ran limits l ts ks stack m;
       }
 
@@ -223,18 +223,18 @@ module _ {sw : Switches} {limits : Limits} {s : List ℕ} {kind : Kind} {l : Lab
         room = B .room;
         long = B .long;
         wrote = B .wrote;
-        chained = B .chained;
+        siblings = B .siblings;
         ran = λ stack h. B .ran stack h ∙ I .ran limits l ts ks stack (known B);
       }
 
-  pub body-wrong : {ts : Forest} {ks : List (List ℕ)} {i m z : ℕ} {tab : List ℕ} {c q : ℕ}
-      → Within sw limits s kind l ω o d n tin ts ks i m z tab → Refuses sw s kind tab i (n + 1) m z c q → Stops ω d n tin tab c q
-  body-wrong {ts} {ks} B I = record { ran = λ stack h. B .ran stack h ∙ I .ran limits l ts ks stack (known B); kept = body-kept B }
+  pub body-item-refused : {ts : Forest} {ks : List (List ℕ)} {i m z : ℕ} {tab : List ℕ} {c q : ℕ}
+      → Within sw limits s kind l ω o d n tin ts ks i m z tab → Refuses sw s kind tab i (n + 1) m z c q → ValueRefused ω d n tin tab c q
+  body-item-refused {ts} {ks} B I = record { ran = λ stack h. B .ran stack h ∙ I .ran limits l ts ks stack (known B); kept = body-kept B }
 
-  pub body-stop : {ts : Forest} {ks : List (List ℕ)} {i m z : ℕ} {tab : List ℕ} {k : TokenKind} {start stop a b : ℕ} {out : List ℕ} {c q : ℕ}
+  pub body-child-refused : {ts : Forest} {ks : List (List ℕ)} {i m z : ℕ} {tab : List ℕ} {k : TokenKind} {start stop a b : ℕ} {out : List ℕ} {c q : ℕ}
       → Within sw limits s kind l ω o d n tin ts ks i m z tab → Valued sw s kind tab i (n + 1) m z k start stop a b
-      → Stops (openedHere sw limits s start stop true (spanAt a b) m) (d + 1) m tab out c q → Stops ω d n tin out c q
-  body-stop {ts} {ks} {i} {m} B I T =
+      → ValueRefused (openedHere sw limits s start stop true (spanAt a b) m) (d + 1) m tab out c q → ValueRefused ω d n tin out c q
+  body-child-refused {ts} {ks} {i} {m} B I T =
       record {
         kept = λ x h. T .kept x (omega (arith, B .grew)) ∙ body-kept B x h;
         ran =
@@ -243,24 +243,24 @@ module _ {sw : Switches} {limits : Limits} {s : List ℕ} {kind : Kind} {l : Lab
             B .ran stack h ∙ I .ran limits l ts ks stack (known B) ∙ T .ran (frame kind l ts (I .keys ks) ∷ stack) u;
       }
 
-  pub body-off : {ts : Forest} {ks : List (List ℕ)} {i m z : ℕ} {tab : List ℕ} {c q : ℕ}
-      → Body sw limits s kind l ω o d n tin ts ks (λ stack. config (frame kind l ts ks ∷ stack) (inside after) m) i m z tab → FollowsNot sw s kind i c q → Stops ω d n tin tab c q
-  body-off {ts} {ks} {i} {m} B A = record { ran = λ stack h. B .ran stack h ∙ A .ran limits l ts ks stack m; kept = body-kept B }
+  pub body-after-refused : {ts : Forest} {ks : List (List ℕ)} {i m z : ℕ} {tab : List ℕ} {c q : ℕ}
+      → Body sw limits s kind l ω o d n tin ts ks (λ stack. config (frame kind l ts ks ∷ stack) (inside after) m) i m z tab → FollowsNot sw s kind i c q → ValueRefused ω d n tin tab c q
+  body-after-refused {ts} {ks} {i} {m} B A = record { ran = λ stack h. B .ran stack h ∙ A .ran limits l ts ks stack m; kept = body-kept B }
 
 -- the container's row is written
-pub body-took : {rules : Rules} {s : List ℕ} {due : Due} {p : CS.Span} {kind : Kind} {tin : List ℕ} {ts : Forest} {ks : List (List ℕ)} {j m z : ℕ} {tab out : List ℕ} {r : Answer}
+pub body-read : {rules : Rules} {s : List ℕ} {due : Due} {p : CS.Span} {kind : Kind} {tin : List ℕ} {ts : Forest} {ks : List (List ℕ)} {j m z : ℕ} {tab out : List ℕ} {r : Progress}
     → SpansApart (due .label)
     → Body (rules .sw) (rules .limits) s kind (labelOf (due .label)) (openedBy rules s due p (container kind)) (p .start) (due .spot .depth) (due .spot .node) tin ts ks (λ stack. ended stack m (labelOf (due .label) .name) (branch (headBy (labelOf (due .label)) j) kind ts)) j m z tab
     → r ≡ A.Done j m → out ≡ sets tab (nodeWords * due .spot .node) (rowOf due (branchWords kind z) j m) → ReadAs rules s due p (container kind) tin out r
 unfolding size headOf headBy
-body-took {rules} {s} {due} {p} {kind} {tin} {ts} {ks} {j} {m} {z} {tab} {out} {r} ok B e v =
+body-read {rules} {s} {due} {p} {kind} {tin} {ts} {ks} {j} {m} {z} {tab} {out} {r} ok B e v =
     record {
       is =
-          subst (RanIs (rules .sw) (rules .limits) s (openedBy rules s due p (container kind)) (labelOf (due .label)) (p .start) (due .spot .depth) (due .spot .parent) (due .spot .node) tin out)
+          subst (ProgressIs (rules .sw) (rules .limits) s (openedBy rules s due p (container kind)) (labelOf (due .label)) (p .start) (due .spot .depth) (due .spot .parent) (due .spot .node) tin out)
           (sym e) done;
     }
   where
-    done : Took (rules .sw) (rules .limits) s (openedBy rules s due p (container kind)) (labelOf (due .label)) (p .start) (due .spot .depth) (due .spot .parent) (due .spot .node) tin out j m
+    done : ValueRead (rules .sw) (rules .limits) s (openedBy rules s due p (container kind)) (labelOf (due .label)) (p .start) (due .spot .depth) (due .spot .parent) (due .spot .node) tin out j m
     done =
         record {
           tree = branch (headBy (labelOf (due .label)) j) kind ts;
@@ -292,7 +292,7 @@ node-left nodes true n e h = leb-false nodes n e
 node-left nodes false n e h = h refl
 
 module _ (sw : Switches) (limits : Limits) (s : List ℕ) (start stop : ℕ) (fresh any : Bool) (l : Label) (n d : ℕ) (kind : Kind) where
-  pub open-deep : limits .depth ≤ d → (tab : List ℕ) → Stops (opened sw limits s start stop fresh any l n (container kind)) d n tab tab 9 start
+  pub open-deep : limits .depth ≤ d → (tab : List ℕ) → ValueRefused (opened sw limits s start stop fresh any l n (container kind)) d n tab tab 9 start
   unfolding opened valueStep refuseIf afterStep
   open-deep h tab =
       record {
@@ -303,7 +303,7 @@ module _ (sw : Switches) (limits : Limits) (s : List ℕ) (start stop : ℕ) (fr
             rw (le-leb (limits .depth) (length stack) g);
       }
 
-  pub open-full : d < limits .depth → (fresh && leb (limits .nodes) n) ≡ true → (tab : List ℕ) → Stops (opened sw limits s start stop fresh any l n (container kind)) d n tab tab 10 start
+  pub open-full : d < limits .depth → (fresh && leb (limits .nodes) n) ≡ true → (tab : List ℕ) → ValueRefused (opened sw limits s start stop fresh any l n (container kind)) d n tab tab 10 start
   unfolding opened valueStep refuseIf afterStep
   open-full h f tab =
       record {
@@ -328,7 +328,7 @@ module _ (sw : Switches) (limits : Limits) (s : List ℕ) (start stop : ℕ) (fr
         room = w;
         long = refl;
         wrote = refl;
-        chained = λ _. refl;
+        siblings = λ _. refl;
         ran =
             λ stack e.
             let g : length stack < limits .depth = omega arith in

@@ -18,7 +18,7 @@ use Rattle.literals.specs.Content.{fitted, placed}
 use Rattle.lexer.specs.Token.{tokenContent}
 use Rattle.reader.specs.declared.content.Given.{Given}
 use Rattle.reader.specs.declared.content.Given.the-variants as G
-use Rattle.reader.specs.Content.{part, isSpan, contentAlone, spanContent, given, refused, fitting, contentCall, written, answered}
+use Rattle.reader.specs.Content.{part, isSpan, contentAlone, spanContent, given, refused, fitting, contentCall, written, contentGiven}
 
 -- what the call makes of the decoder's answer
 abbrev pub told : Written → Given
@@ -26,12 +26,12 @@ told (W.Bytes n) = G.Bytes n
 told W.Refused = G.Refused 19
 told W.NoRoom = G.Refused 20
 
-told-fitted : (room : ℕ) (o : Option (List ℕ)) → told (fitted room o) ≡ answered (fitting room o)
-unfolding fitted fitting answered
+told-fitted : (room : ℕ) (o : Option (List ℕ)) → told (fitted room o) ≡ contentGiven (fitting room o)
+unfolding fitted fitting contentGiven
 told-fitted room none = refl
 told-fitted room (some s) = choice (leb (length s) room)
   where
-    choice : (b : Bool) → told (cond b (W.Bytes (length s)) W.NoRoom) ≡ answered (cond b (given s) (refused 20))
+    choice : (b : Bool) → told (cond b (W.Bytes (length s)) W.NoRoom) ≡ contentGiven (cond b (given s) (refused 20))
     choice true = refl
     choice false = refl
 
@@ -63,36 +63,36 @@ module _ (sw : Switches) (token out : List ℕ) where
 
   -- bytes that are not UTF-8
   pub broken : (wholeFront (utf8 token) ≡ length token → ⊥)
-      → (G.Refused 19 ≡ answered (fitting (length out) (contentAlone sw token))) × (out ≡ written (fitting (length out) (contentAlone sw token)) out)
-  unfolding fitting answered written
+      → (G.Refused 19 ≡ contentGiven (fitting (length out) (contentAlone sw token))) × (out ≡ written (fitting (length out) (contentAlone sw token)) out)
+  unfolding fitting contentGiven written
   broken h = rw (not-utf8 h) (refl, refl)
 
   -- bytes that are, by the decoder's answer w
   pub decoded : (w : Written) (after : List ℕ) → wholeFront (utf8 token) ≡ length token
       → fitted (length out) (tokenContent sw token) ≡ w → after ≡ placed (tokenContent sw token) out
-      → (told w ≡ answered (fitting (length out) (contentAlone sw token))) × (after ≡ written (fitting (length out) (contentAlone sw token)) out)
+      → (told w ≡ contentGiven (fitting (length out) (contentAlone sw token))) × (after ≡ written (fitting (length out) (contentAlone sw token)) out)
   decoded w after h e f =
       rw (is-utf8 h) (ap told (sym e) ∙ told-fitted (length out) (tokenContent sw token), f ∙ placed-written (tokenContent sw token) out)
 
 module _ (sw : Switches) (start stop : ℕ) (text out : List ℕ) where
   -- no span
   off : isSpan start stop text ≡ false
-      → (G.Refused 19 ≡ answered (contentCall sw start stop text out)) × (out ≡ written (contentCall sw start stop text out) out)
-  unfolding contentCall spanContent fitting answered written
+      → (G.Refused 19 ≡ contentGiven (contentCall sw start stop text out)) × (out ≡ written (contentCall sw start stop text out) out)
+  unfolding contentCall spanContent fitting contentGiven written
   off e = rw e (refl, refl)
 
   pub backwards : stop < start
-      → (G.Refused 19 ≡ answered (contentCall sw start stop text out)) × (out ≡ written (contentCall sw start stop text out) out)
+      → (G.Refused 19 ≡ contentGiven (contentCall sw start stop text out)) × (out ≡ written (contentCall sw start stop text out) out)
   unfolding isSpan
   backwards h = off (rw (lt-leb start stop h))
 
   pub past : start ≤ stop → length text < stop
-      → (G.Refused 19 ≡ answered (contentCall sw start stop text out)) × (out ≡ written (contentCall sw start stop text out) out)
+      → (G.Refused 19 ≡ contentGiven (contentCall sw start stop text out)) × (out ≡ written (contentCall sw start stop text out) out)
   unfolding isSpan
   past h k = off (rw (le-leb start stop h, lt-leb stop (length text) k))
 
   pub long : start ≤ stop → stop ≤ length text → 65536 < stop - start
-      → (G.Refused 19 ≡ answered (contentCall sw start stop text out)) × (out ≡ written (contentCall sw start stop text out) out)
+      → (G.Refused 19 ≡ contentGiven (contentCall sw start stop text out)) × (out ≡ written (contentCall sw start stop text out) out)
   unfolding isSpan
   long h k l = off (rw (le-leb start stop h, le-leb stop (length text) k, lt-leb (stop - start) 65536 l))
 

@@ -4,7 +4,7 @@
 -- - "the first token that no taken text could have there": a taken text has the tokens before it, one that even begins with the same bytes up to
 --   their end; and no taken text has it behind them, with the same form at the same place: `First`.
 -- - "7 is at": a text that is refused with 7 is refused at the start of such a token, or at its length if it ends early: `seven-first`.
--- - And at such a token a text is refused with 7, unless a limit (9, 10) stops its reading; "doubled keys apart": with 8, if the token's content is
+-- - And at such a token a text is refused with 7, unless a limit (9, 10) value-refused its reading; "doubled keys apart": with 8, if the token's content is
 --   among the keys of the innermost object: `first-seven`.
 -- Assumes nothing.
 use mathlib.Core.Path.{_≡_, refl, sym, ap, _∙_, subst}
@@ -133,7 +133,7 @@ module _ (sw : Switches) (any : Bool) where
       (w .could, w .more, w .text-is ∙ ap (λ (n : ℕ). take n s ++ w .more) (end-last 0 ts u))
 
   -- NEVER EARLY: where a token is refused with 7, every text that has the same tokens so far is refused with 7 at it, whatever follows and whatever
-  -- the limits are, unless a limit (9, 10) stops its reading. The same holds of 8.
+  -- the limits are, unless a limit (9, 10) value-refused its reading. The same holds of 8.
   pub never-early : (l : Limits) (ts : List Token) (u : Token) (d : Config) (n : ℕ) → Over sw l (before any) ts d → step sw l d u ≡ refuse n → Rule d u n
       → (l′ : Limits) (s : List ℕ) (r : Tokens) → tokens sw s ≡ leads ts (L.next u r)
       → Apart (refused n (u .start)) (run sw l′ (tokens sw s) (before any))

@@ -1,5 +1,5 @@
 -- The machine's moves depend on the forms of the tokens, on the kinds, keys and identifiers of what is open, and on the limits; not on places, trees
--- and node counts. So two runs over tokens of the same forms go alike, unless a limit (9, 10) stops the second.
+-- and node counts. So two runs over tokens of the same forms go alike, unless a limit (9, 10) value-refused the second.
 -- Assumes nothing.
 use mathlib.Core.Path.{_≡_, refl, ap, subst}
 use Prim.Native.Nat.{ℕ}

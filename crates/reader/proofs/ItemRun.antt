@@ -54,11 +54,11 @@ and-false false = refl
 -- ---- one mark, as it was told
 
 module _ {sw : Switches} {s : List ℕ} {from want : ℕ} {r : Only} where
-  pub told-at : {stop : ℕ} → from ≤ length s → r ≡ Only.At stop → r ≡ onlyAt sw s from want → Marked sw s from want stop
-  told-at {stop} h e q = only-at sw s from want h stop (sym q ∙ e)
+  pub mark-at : {stop : ℕ} → from ≤ length s → r ≡ Only.At stop → r ≡ onlyAt sw s from want → Marked sw s from want stop
+  mark-at {stop} h e q = only-at sw s from want h stop (sym q ∙ e)
 
-  pub told-not : {f : Refusal} → from ≤ length s → r ≡ Only.Refused f → r ≡ onlyAt sw s from want → NotMarked sw s from want (f .number) (f .place)
-  told-not {f} h e q = only-not sw s from want h f (sym q ∙ e)
+  pub mark-refused : {f : Refusal} → from ≤ length s → r ≡ Only.Refused f → r ≡ onlyAt sw s from want → NotMarked sw s from want (f .number) (f .place)
+  mark-refused {f} h e q = only-not sw s from want h f (sym q ∙ e)
 
 -- ---- arrays and tuples
 
@@ -359,7 +359,7 @@ module _ (sw : Switches) (s tab : List ℕ) (i x m : ℕ) (k : TokenKind) (start
               peek-refuse sw limits s i (innerAt Object l ts ks stack m z) k start stop 8 p
               (field-step limits l ts ks stack z (some w) (key-of sw s k start stop (p .token) y)
               ∙ ap (λ (b : Bool). refuseIf b 8 (go (config (frame Object l ts (ks ++ (w ∷ [])) ∷ stack) (colon (record { start = start; stop = stop })) m)))
-              (sym (F .is w (key-here sw s k start stop (p .token) y .key) ks (K .chain refl))));
+              (sym (F .is w (key-here sw s k start stop (p .token) y .key) ks (K .siblings refl))));
         }
 
     new-run : FoundKey sw s tab x m start stop false → (limits : Limits) (l : Label) (ts : Forest) (ks : List (List ℕ)) (stack : List Frame) (z : ℕ) → Known sw s Object tab x m ks
@@ -370,7 +370,7 @@ module _ (sw : Switches) (s tab : List ℕ) (i x m : ℕ) (k : TokenKind) (start
         peek-go sw limits s i (innerAt Object l ts ks stack m z) k start stop (config (frame Object l ts (ks ++ (w ∷ [])) ∷ stack) (colon (record { start = start; stop = stop })) m) p
         (field-step limits l ts ks stack z (some w) (key-of sw s k start stop (p .token) y)
         ∙ ap (λ (b : Bool). refuseIf b 8 (go (config (frame Object l ts (ks ++ (w ∷ [])) ∷ stack) (colon (record { start = start; stop = stop })) m)))
-        (sym (F .is w (key-here sw s k start stop (p .token) y .key) ks (K .chain refl))))
+        (sym (F .is w (key-here sw s k start stop (p .token) y .key) ks (K .siblings refl))))
 
     -- what stands after the key is what stands where the child is due
     pub field-key : length s ≤ maxText → FoundKey sw s tab x m start stop false → (z : ℕ) (r : Item) → AfterKeyIs sw s start stop r → ItemIs sw s Object tab i x m z r

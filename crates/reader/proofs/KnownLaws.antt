@@ -104,7 +104,7 @@ module _ (sw : Switches) (limits : Limits) (s : List ℕ) (tree : Tree) where
 
   -- one token, with the bytes b ∷ x
   module _ (pre : List ℕ) (b : ℕ) (x z : List ℕ) (joined : pre ++ (b ∷ (x ++ z)) ≡ s) (t : Token) (starts : t .start ≡ length pre)
-      (stops : t .stop ≡ length (pre ++ (b ∷ x))) (open-byte : notNewline b ≡ true) (low-byte : b ≤ 127) where
+      (value-refused : t .stop ≡ length (pre ++ (b ∷ x))) (open-byte : notNewline b ≡ true) (low-byte : b ≤ 127) where
     Finishes : Config → Type 0
     Finishes d = run sw limits (cut sw 0 (length (pre ++ (b ∷ x))) z) d ≡ taken tree
 
@@ -139,8 +139,8 @@ module _ (sw : Switches) (limits : Limits) (s : List ℕ) (tree : Tree) where
           nodes = n;
           value = u;
           split = append-assoc pre (b ∷ x) z ∙ joined;
-          place = sym stops;
-          goes = ap (λ (m : ℕ). run sw limits (cut sw 0 m z) (finished S n u)) stops ∙ h;
+          place = sym value-refused;
+          goes = ap (λ (m : ℕ). run sw limits (cut sw 0 m z) (finished S n u)) value-refused ∙ h;
         }
 
     known-or : (y : Bool) (k : ℕ) (st : Step) → StepKnown st → StepKnown (refuseIf y k st)

@@ -1,4 +1,4 @@
--- The refusals by a limit, 9 and 10, and two runs of which the second goes where the first goes, unless a limit stops it.
+-- The refusals by a limit, 9 and 10, and two runs of which the second goes where the first goes, unless a limit value-refused it.
 -- Assumes nothing.
 use mathlib.Core.Path.{_≡_}
 use Prim.Native.Nat.{ℕ}
@@ -22,7 +22,7 @@ FairIf (refused k place) o = Unit {0}
 -- ---- steps
 
 module _ (R : Config → Config → Type 0) where
-  -- where the first goes on the second does, or a limit stops it
+  -- where the first goes on the second does, or a limit value-refused it
   unfoldable pub Steps : Step → Step → Type 0
   Steps (go c) (go d) = R c d
   Steps (go c) (refuse k) = Limit k

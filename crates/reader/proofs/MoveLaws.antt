@@ -1,5 +1,5 @@
 -- A value that is taken alone, read elsewhere: at another place, on a stack, in other limits, with other bytes behind it. Its tree is the same
--- with all places shifted and with the key that is due there; or a limit (9, 10) stops it.
+-- with all places shifted and with the key that is due there; or a limit (9, 10) value-refused it.
 -- Assumes nothing.
 use mathlib.Core.Path.{_≡_, refl, sym, ap, _∙_, subst}
 use Prim.Native.Nat.{ℕ, suc, _+_}
@@ -257,7 +257,7 @@ path-shift sw limits d p =
 
 -- ---- the value elsewhere
 
--- the value's bytes r, with z behind them, at the place `at` and in the configuration e, come to the tree u moved there; or a limit stops them
+-- the value's bytes r, with z behind them, at the place `at` and in the configuration e, come to the tree u moved there; or a limit value-refused them
 pub data Reads (sw : Switches) (limits : Limits) (at : ℕ) (r z : List ℕ) (e : Config) (key : Option Span) (u : Tree) : Type 0 where
   reads-on : (nodes : ℕ)
       → run sw limits (cut sw 0 at (r ++ z)) e ≡ run sw limits (cut sw 0 (at + length r) z) (finished (e .stack) nodes (rekeyed key (shiftTree at u)))

@@ -31,7 +31,7 @@ use Rattle.reader.specs.Tree.{rows, noParent, padded, nodeWords}
 use Rattle.reader.specs.Syntax.{label, value, done, config, ended, finished, modeStep, step, Outcome, refused, atEnd, run, before}
 use Rattle.reader.specs.Reading.{maxText, maxNodes, nodeLimit, limitsOf, limitsAlone, outcome, reading, tableOf, answerOf, spans, oneValue}
 use Rattle.reader.specs.Internal.Ahead.{aheadAt}
-use Rattle.reader.specs.Internal.Values.{spanAt, runFrom, openedHere, Roomy, Took, Stops}
+use Rattle.reader.specs.Internal.Values.{spanAt, runFrom, openedHere, Roomy, ValueRead, ValueRefused}
 use Rattle.reader.specs.Internal.Whole.{aloneOf, aloneAt, TreeRead, TreeIs, WholeAt, JudgedAt}
 use Rattle.reader.proofs.TableLaws.{length-rows}
 use Rattle.reader.proofs.StepRun.{Peeked, peeked, ahead-refuses, peek-refuse, end-run, fault-run, value-opens}
@@ -55,11 +55,11 @@ module _ (sw : Switches) (limits : Limits) (any : Bool) (s : List ℕ) where
   whole-none f e = from-start ∙ ahead-refuses sw s 0 f e limits (config [] (value any none) 0) (λ place. refl)
 
   module _ (k : TokenKind) (start stop : ℕ) (p : Peeked sw s 0 k start stop) where
-    pub whole-stops : (tin tout : List ℕ) (number place : ℕ) → Stops (openedHere sw limits s start stop any (spanAt 0 0) 0) 0 0 tin tout number place → run sw limits (tokens sw s) (before any) ≡ refused number place
+    pub whole-refused : (tin tout : List ℕ) (number place : ℕ) → ValueRefused (openedHere sw limits s start stop any (spanAt 0 0) 0) 0 0 tin tout number place → run sw limits (tokens sw s) (before any) ≡ refused number place
     unfolding spanAt
-    whole-stops tin tout number place T = from-start ∙ value-opens sw limits s 0 k start stop p any none [] 0 ∙ T .ran [] refl
+    whole-refused tin tout number place T = from-start ∙ value-opens sw limits s 0 k start stop p any none [] 0 ∙ T .ran [] refl
 
-    module _ (tin tout : List ℕ) (j m : ℕ) (T : Took sw limits s (openedHere sw limits s start stop any (spanAt 0 0) 0) (label start (spanAt 0 0) none) start 0 noParent 0 tin tout j m) where
+    module _ (tin tout : List ℕ) (j m : ℕ) (T : ValueRead sw limits s (openedHere sw limits s start stop any (spanAt 0 0) 0) (label start (spanAt 0 0) none) start 0 noParent 0 tin tout j m) where
       to-done : run sw limits (tokens sw s) (before any) ≡ runFrom sw limits s j (config [] (done (T .tree)) m)
       unfolding spanAt ended finished
       to-done = from-start ∙ value-opens sw limits s 0 k start stop p any none [] 0 ∙ T .ran [] refl

@@ -1,4 +1,4 @@
--- A value replaced by another in a text that reads: the new text reads, or a limit (9, 10) stops its reading.
+-- A value replaced by another in a text that reads: the new text reads, or a limit (9, 10) value-refused its reading.
 -- Assumes nothing.
 use mathlib.Core.Path.{_≡_, refl, sym, ap, _∙_, subst}
 use Prim.Native.Nat.{ℕ, zero, suc, _+_, _≤_, _<_}
@@ -154,7 +154,7 @@ module _ (sw : Switches) (words node : ℕ) (text r : List ℕ) where
       let new = putIn (taken tree) in
       subst Fair (sym (outcome-run sw false (limitsOf words) new p l)) q
 
--- a node of a text that reads, replaced by one value (a root for node 0), within the text's size: the new text reads, or a limit stops it
+-- a node of a text that reads, replaced by one value (a root for node 0), within the text's size: the new text reads, or a limit value-refused it
 pub replaced-reading : (sw : Switches) (words node : ℕ) (text r : List ℕ) → T (reads sw words text) → node < nodeCount (reading sw words text)
     → oneValue sw (ltb 0 node) r ≡ true
     → length (take (wordOf (tableOf words (reading sw words text)) node 2) text ++ (r ++ drop (wordOf (tableOf words (reading sw words text)) node 3) text)) ≤ maxText

@@ -156,7 +156,7 @@ module _ (sw : Switches) (l l′ : Limits) (r : Roomier l l′) where
   over-down rest (goes {c = c} {t = t} {ts = ts} e p) h =
       go-down (t .start) (λ g. run sw l (leads ts rest) g) (step-freer sw l l′ r c t) e (over-down rest p h)
 
--- where the machine refuses a token, not by a limit, it does so in all limits and whatever follows; or a limit stops it
+-- where the machine refuses a token, not by a limit, it does so in all limits and whatever follows; or a limit value-refused it
 pub refused-anyway : (sw : Switches) (l l′ : Limits) {c d : Config} {ts : List Token} (u : Token) (n : ℕ) (rest : Tokens) → Over sw l c ts d
     → step sw l d u ≡ refuse n → (Limit n → ⊥) → Apart (refused n (u .start)) (run sw l′ (leads ts (L.next u rest)) c)
 unfolding run

@@ -24,13 +24,13 @@ use Rattle.lexer.specs.declared.item.Token as CT
 use Rattle.text.specs.declared.span.Span as CS
 use Rattle.reader.specs.declared.tree.Begin.{Begin}
 use Rattle.reader.specs.declared.items.Ahead.the-variants as H
-use Rattle.reader.specs.declared.values.Answer.{Answer}
-use Rattle.reader.specs.declared.values.Answer.the-variants as A
+use Rattle.reader.specs.declared.values.Progress.{Progress}
+use Rattle.reader.specs.declared.values.Progress.the-variants as A
 use Rattle.reader.specs.Tree.{Span, leaf, size, headOf, rows, nodeWords}
 use Rattle.reader.specs.Syntax.{Label, label, Frame, value, named, inner, close, config, Step, go, refuseIf, Begins, scalar, identifier, nothing, begins, spanOf, isMark, headBy, withStop, ended, finished, noNode, counted, valueStep, modeStep, step, Outcome, atEnd, afterStep}
 use Rattle.reader.specs.Internal.Tokens.{formAt, tokenAt, LeafIs, BeginIs, Begun, beginsAt}
 use Rattle.reader.specs.Internal.Ahead.{aheadAfter}
-use Rattle.reader.specs.Internal.Values.{spanAt, labelOf, SpansApart, namedLabel, namedDue, rowWords, rowOf, runFrom, nodesAt, opened, Ready, Placed, isFull, leafAnswer, leafTable, Took, Stops, RanIs, openedBy, ReadAs}
+use Rattle.reader.specs.Internal.Values.{spanAt, labelOf, SpansApart, namedLabel, namedDue, rowWords, rowOf, runFrom, nodesAt, opened, Ready, Placed, isFull, leafProgress, leafTable, ValueRead, ValueRefused, ProgressIs, openedBy, ReadAs}
 use Rattle.reader.proofs.StopLaws.{stops-size, stops-key, stops-start, stops-stop}
 use Rattle.reader.proofs.StepRun.{Peeked, Marked, Wants, NotMarked, Past, peek-run, mark-go, not-mark, mode-free, past-refuses}
 use Rattle.reader.proofs.ItemRun.{span-some}
@@ -55,11 +55,11 @@ module _ (sw : Switches) (limits : Limits) (s : List ℕ) (start stop : ℕ) (fr
   unfolding opened ω
   leaf-run stack = ap (λ (b : Begins). afterStep start (valueStep limits (config stack (value any none) (nodesAt fresh n)) fresh any (labelOf p) (tokenAt sw s start stop) b) (λ c. runFrom sw limits s stop c)) (W .is)
 
-  leaf-not : any ≡ false → (tab : List ℕ) → Stops (opened sw limits s start stop fresh any (labelOf p) n (begins (spanOf (tokenAt sw s start stop)) (formAt sw s start))) d n tab tab 7 start
+  leaf-not : any ≡ false → (tab : List ℕ) → ValueRefused (opened sw limits s start stop fresh any (labelOf p) n (begins (spanOf (tokenAt sw s start stop)) (formAt sw s start))) d n tab tab 7 start
   unfolding valueStep refuseIf afterStep ω
   leaf-not e tab = record { ran = λ stack h. leaf-run stack ∙ rw e; kept = λ x h. refl }
 
-  leaf-full : any ≡ true → (fresh && leb (limits .nodes) n) ≡ true → (tab : List ℕ) → Stops (opened sw limits s start stop fresh any (labelOf p) n (begins (spanOf (tokenAt sw s start stop)) (formAt sw s start))) d n tab tab 10 start
+  leaf-full : any ≡ true → (fresh && leb (limits .nodes) n) ≡ true → (tab : List ℕ) → ValueRefused (opened sw limits s start stop fresh any (labelOf p) n (begins (spanOf (tokenAt sw s start stop)) (formAt sw s start))) d n tab tab 10 start
   unfolding valueStep refuseIf afterStep ω
   leaf-full e f tab =
       record {
@@ -71,11 +71,11 @@ module _ (sw : Switches) (limits : Limits) (s : List ℕ) (start stop : ℕ) (fr
             ∙ ap (λ (x : Bool). afterStep start (refuseIf x 10 (go (ended stack (counted limits fresh (config stack (value any none) (nodesAt fresh n))) (labelOf p .name) (leaf (headBy (labelOf p) stop) (W .value))))) (λ c. runFrom sw limits s stop c)) (no-node limits stack (value any none) fresh n ∙ f);
       }
 
-  leaf-took : SpansApart p → any ≡ true → (fresh && leb (limits .nodes) n) ≡ false → n < limits .nodes → start < stop → stop ≤ length s → (parent : ℕ) (tin out : List ℕ)
+  leaf-value : SpansApart p → any ≡ true → (fresh && leb (limits .nodes) n) ≡ false → n < limits .nodes → start < stop → stop ≤ length s → (parent : ℕ) (tin out : List ℕ)
       → out ≡ sets tin (nodeWords * n) (rowWords (v .kind) parent p stop (n + 1) (v .low) (v .high) (v .extra))
-      → Took sw limits s (opened sw limits s start stop fresh any (labelOf p) n (begins (spanOf (tokenAt sw s start stop)) (formAt sw s start))) (labelOf p) start d parent n tin out stop (n + 1)
+      → ValueRead sw limits s (opened sw limits s start stop fresh any (labelOf p) n (begins (spanOf (tokenAt sw s start stop)) (formAt sw s start))) (labelOf p) start d parent n tin out stop (n + 1)
   unfolding valueStep refuseIf afterStep ω size headOf headBy
-  leaf-took ok e f r o i parent tin out w =
+  leaf-value ok e f r o i parent tin out w =
       record {
         tree = leaf (headBy (labelOf p) stop) (W .value);
         keyed = refl;
@@ -95,14 +95,14 @@ module _ (sw : Switches) (limits : Limits) (s : List ℕ) (start stop : ℕ) (fr
       }
 
 -- what `put_leaf` has answered and written
-pub leaf-read : {rules : Rules} {s : List ℕ} {due : Due} {p : CS.Span} {w : Words} {tin tout : List ℕ} {r : Answer} → Ready (rules .limits) tin due → Placed s p
-    → LeafIs (rules .sw) s (p .start) (p .stop) w → r ≡ leafAnswer (rules .limits) due p → tout ≡ leafTable (rules .limits) due p w tin
+pub leaf-read : {rules : Rules} {s : List ℕ} {due : Due} {p : CS.Span} {w : Words} {tin tout : List ℕ} {r : Progress} → Ready (rules .limits) tin due → Placed s p
+    → LeafIs (rules .sw) s (p .start) (p .stop) w → r ≡ leafProgress (rules .limits) due p → tout ≡ leafTable (rules .limits) due p w tin
     → ReadAs rules s due p (beginsAt (rules .sw) s p) tin tout r
-unfolding leafAnswer leafTable
+unfolding leafProgress leafTable
 leaf-read {rules} {s} {due} {p} {w} {tin} {tout} {r} R P W e v = by (due .any) (isFull (rules .limits) due) refl refl e v
   where
-    same-table : {number place : ℕ} → tout ≡ tin → Stops (openedBy rules s due p (beginsAt (rules .sw) s p)) (due .spot .depth) (due .spot .node) tin tin number place
-        → Stops (openedBy rules s due p (beginsAt (rules .sw) s p)) (due .spot .depth) (due .spot .node) tin tout number place
+    same-table : {number place : ℕ} → tout ≡ tin → ValueRefused (openedBy rules s due p (beginsAt (rules .sw) s p)) (due .spot .depth) (due .spot .node) tin tin number place
+        → ValueRefused (openedBy rules s due p (beginsAt (rules .sw) s p)) (due .spot .depth) (due .spot .node) tin tout number place
     same-table q S = record { ran = S .ran; kept = λ x h. ap (λ (l : List ℕ). getD l x 0) q }
 
     by : (a f : Bool) → due .any ≡ a → isFull (rules .limits) due ≡ f
@@ -110,25 +110,25 @@ leaf-read {rules} {s} {due} {p} {w} {tin} {tout} {r} R P W e v = by (due .any) (
         → tout ≡ cond a (cond f tin (sets tin (nodeWords * due .spot .node) (rowOf due w (p .stop) (due .spot .node + 1)))) tin
         → ReadAs rules s due p (beginsAt (rules .sw) s p) tin tout r
     by true true a f q u =
-        record { is = subst (RanIs (rules .sw) (rules .limits) s (openedBy rules s due p (beginsAt (rules .sw) s p)) (labelOf (due .label)) (p .start) (due .spot .depth) (due .spot .parent) (due .spot .node) tin tout) (sym q) (same-table u (leaf-full (rules .sw) (rules .limits) s (p .start) (p .stop) (due .fresh) (due .any) (due .label) (due .spot .node) (due .spot .depth) w W a f tin)) }
+        record { is = subst (ProgressIs (rules .sw) (rules .limits) s (openedBy rules s due p (beginsAt (rules .sw) s p)) (labelOf (due .label)) (p .start) (due .spot .depth) (due .spot .parent) (due .spot .node) tin tout) (sym q) (same-table u (leaf-full (rules .sw) (rules .limits) s (p .start) (p .stop) (due .fresh) (due .any) (due .label) (due .spot .node) (due .spot .depth) w W a f tin)) }
     by true false a f q u =
-        record { is = subst (RanIs (rules .sw) (rules .limits) s (openedBy rules s due p (beginsAt (rules .sw) s p)) (labelOf (due .label)) (p .start) (due .spot .depth) (due .spot .parent) (due .spot .node) tin tout) (sym q) (leaf-took (rules .sw) (rules .limits) s (p .start) (p .stop) (due .fresh) (due .any) (due .label) (due .spot .node) (due .spot .depth) w W (R .label) a f (node-left (rules .limits .nodes) (due .fresh) (due .spot .node) f (R .counted)) (P .ordered) (P .inside) (due .spot .parent) tin tout u) }
+        record { is = subst (ProgressIs (rules .sw) (rules .limits) s (openedBy rules s due p (beginsAt (rules .sw) s p)) (labelOf (due .label)) (p .start) (due .spot .depth) (due .spot .parent) (due .spot .node) tin tout) (sym q) (leaf-value (rules .sw) (rules .limits) s (p .start) (p .stop) (due .fresh) (due .any) (due .label) (due .spot .node) (due .spot .depth) w W (R .label) a f (node-left (rules .limits .nodes) (due .fresh) (due .spot .node) f (R .counted)) (P .ordered) (P .inside) (due .spot .parent) tin tout u) }
     by false f a g q u =
-        record { is = subst (RanIs (rules .sw) (rules .limits) s (openedBy rules s due p (beginsAt (rules .sw) s p)) (labelOf (due .label)) (p .start) (due .spot .depth) (due .spot .parent) (due .spot .node) tin tout) (sym q) (same-table u (leaf-not (rules .sw) (rules .limits) s (p .start) (p .stop) (due .fresh) (due .any) (due .label) (due .spot .node) (due .spot .depth) w W a tin)) }
+        record { is = subst (ProgressIs (rules .sw) (rules .limits) s (openedBy rules s due p (beginsAt (rules .sw) s p)) (labelOf (due .label)) (p .start) (due .spot .depth) (due .spot .parent) (due .spot .node) tin tout) (sym q) (same-table u (leaf-not (rules .sw) (rules .limits) s (p .start) (p .stop) (due .fresh) (due .any) (due .label) (due .spot .node) (due .spot .depth) w W a tin)) }
 
 -- ---- tokens that begin nothing
 
-pub nothing-stops : (sw : Switches) (limits : Limits) (s : List ℕ) (start stop : ℕ) (fresh any : Bool) (l : Label) (n : ℕ) (b : Begins) (d : ℕ) (tab : List ℕ) → b ≡ nothing
-    → Stops (opened sw limits s start stop fresh any l n b) d n tab tab 7 start
+pub nothing-refused : (sw : Switches) (limits : Limits) (s : List ℕ) (start stop : ℕ) (fresh any : Bool) (l : Label) (n : ℕ) (b : Begins) (d : ℕ) (tab : List ℕ) → b ≡ nothing
+    → ValueRefused (opened sw limits s start stop fresh any l n b) d n tab tab 7 start
 unfolding opened valueStep afterStep
-nothing-stops sw limits s start stop fresh any l n b d tab e =
+nothing-refused sw limits s start stop fresh any l n b d tab e =
     record { ran = λ stack h. ap (λ (x : Begins). opened sw limits s start stop fresh any l n x stack) e; kept = λ x h. refl }
 
 -- ---- identifiers
 
 -- no identifier in an identifier's bracket
 pub name-twice : (sw : Switches) (limits : Limits) (s : List ℕ) (start stop : ℕ) (fresh any : Bool) (l : Label) (n d : ℕ) (tab : List ℕ) → fresh ≡ false
-    → Stops (opened sw limits s start stop fresh any l n identifier) d n tab tab 7 start
+    → ValueRefused (opened sw limits s start stop fresh any l n identifier) d n tab tab 7 start
 unfolding opened valueStep refuseIf afterStep
 name-twice sw limits s start stop fresh any l n d tab e = record { ran = λ stack h. rw e; kept = λ x h. refl }
 
@@ -164,7 +164,7 @@ module _ (sw : Switches) (limits : Limits) (s : List ℕ) (from : ℕ) (any : Bo
       ∙ ap (λ (x : Step). afterStep start x (λ c. runFrom sw limits s stop c)) (mode-free limits stack (inner any l) (value any none) (suc n) false any l (tokenAt sw s start stop) (begins (spanOf (tokenAt sw s start stop)) (formAt sw s start)))
 
 module _ (sw : Switches) (limits : Limits) (s : List ℕ) (start stop : ℕ) (fresh any : Bool) (p : CL.Label) (n d : ℕ) (new : fresh ≡ true) where
-  pub name-full : limits .nodes ≤ n → (tab : List ℕ) → Stops (opened sw limits s start stop fresh any (labelOf p) n identifier) d n tab tab 10 start
+  pub name-full : limits .nodes ≤ n → (tab : List ℕ) → ValueRefused (opened sw limits s start stop fresh any (labelOf p) n identifier) d n tab tab 10 start
   unfolding opened valueStep refuseIf noNode afterStep
   name-full h tab = record { ran = λ stack e. rw (new, le-leb (limits .nodes) n h); kept = λ x g. refl }
 
@@ -195,7 +195,7 @@ module _ (sw : Switches) (limits : Limits) (s : List ℕ) (start stop : ℕ) (fr
 
     -- no bracket, or no token in it
     pub name-not : (f : Refusal) (tab : List ℕ) → stop ≤ length s → aheadAfter sw s stop 40 ≡ H.Refused f
-        → Stops (opened sw limits s start stop fresh any (labelOf p) n identifier) d n tab tab (f .number) (f .place)
+        → ValueRefused (opened sw limits s start stop fresh any (labelOf p) n identifier) d n tab tab (f .number) (f .place)
     unfolding atEnd
     name-not f tab i q =
         record {
@@ -213,11 +213,11 @@ module _ (sw : Switches) (limits : Limits) (s : List ℕ) (start stop : ℕ) (fr
           ∙ mark-go sw limits s stop (config stack (named any (labelOf r)) (suc n)) 40 (q .place) (config stack (inner any (labelOf r)) (suc n)) (q .mark) (named-goes stack (q .mark .start) (q .place))
           ∙ inner-run sw limits s (q .place) any (labelOf r) n (t .kind) (t .span .start) (t .span .stop) (q .token) stack
 
-      pub name-stop : (tin out : List ℕ) (number place : ℕ) → Stops (opened sw limits s (t .span .start) (t .span .stop) false any (labelOf r) n (beginsAt sw s (t .span))) d n tin out number place
-          → Stops (opened sw limits s start stop fresh any (labelOf p) n identifier) d n tin out number place
-      name-stop tin out number place T = record { ran = λ stack y. name-open stack ∙ T .ran stack y; kept = T .kept }
+      pub name-refused : (tin out : List ℕ) (number place : ℕ) → ValueRefused (opened sw limits s (t .span .start) (t .span .stop) false any (labelOf r) n (beginsAt sw s (t .span))) d n tin out number place
+          → ValueRefused (opened sw limits s start stop fresh any (labelOf p) n identifier) d n tin out number place
+      name-refused tin out number place T = record { ran = λ stack y. name-open stack ∙ T .ran stack y; kept = T .kept }
 
-      module _ (parent : ℕ) (tin out : List ℕ) (j m : ℕ) (T : Took sw limits s (opened sw limits s (t .span .start) (t .span .stop) false any (labelOf r) n (beginsAt sw s (t .span))) (labelOf r) (t .span .start) d parent n tin out j m) where
+      module _ (parent : ℕ) (tin out : List ℕ) (j m : ℕ) (T : ValueRead sw limits s (opened sw limits s (t .span .start) (t .span .stop) false any (labelOf r) n (beginsAt sw s (t .span))) (labelOf r) (t .span .start) d parent n tin out j m) where
         closed-run : (stack : List Frame) → length stack ≡ d → opened sw limits s start stop fresh any (labelOf p) n identifier stack ≡ runFrom sw limits s j (config stack (close (T .tree)) m)
         unfolding ended
         closed-run stack y =
@@ -227,17 +227,17 @@ module _ (sw : Switches) (limits : Limits) (s : List ℕ) (start stop : ℕ) (fr
         unfolding step modeStep atEnd
         close-wants stack = record { others = λ t w. rw (not-mark (t .form) ")" w); ends = λ place. refl }
 
-        pub name-shut-not : (number place : ℕ) → NotMarked sw s j 41 number place → Stops (opened sw limits s start stop fresh any (labelOf p) n identifier) d n tin out number place
+        pub name-shut-not : (number place : ℕ) → NotMarked sw s j 41 number place → ValueRefused (opened sw limits s start stop fresh any (labelOf p) n identifier) d n tin out number place
         name-shut-not number place w =
             record {
               ran = λ stack y. closed-run stack y ∙ w .ran limits (config stack (close (T .tree)) m) (close-wants stack);
               kept = λ x h. ap (λ (l : List ℕ). getD l x 0) (T .wrote) ∙ getD-before-sets (rows parent n (T .tree)) tin x (nodeWords * n) h;
             }
 
-        pub name-took : p .name .stop ≡ 0 → (f : ℕ) → Marked sw s j 41 f → (last : List ℕ) → last ≡ set out (nodeWords * n + 3) f
-            → Took sw limits s (opened sw limits s start stop fresh any (labelOf p) n identifier) (labelOf p) start d parent n tin last f m
+        pub name-read : p .name .stop ≡ 0 → (f : ℕ) → Marked sw s j 41 f → (last : List ℕ) → last ≡ set out (nodeWords * n + 3) f
+            → ValueRead sw limits s (opened sw limits s start stop fresh any (labelOf p) n identifier) (labelOf p) start d parent n tin last f m
         unfolding step modeStep isMark ended labelOf
-        name-took unnamed f w last v =
+        name-read unnamed f w last v =
             let i = w .inside in
             let g = T .grew in
             let z = stops-size f (T .tree) in

@@ -1,4 +1,4 @@
--- The content call (document 01, "Content of a string"). The code answers with an enum of its own, src/content.rt: `answered` gives it.
+-- The content call (document 01, "Content of a string"). The code answers with an enum of its own, src/content.rt: `contentGiven` gives it.
 -- Assumes nothing.
 use Prim.Native.Nat.{ℕ, _-_, _*_}
 use mathlib.Core.Bool.{Bool, cond, _&&_}
@@ -30,30 +30,30 @@ unfoldable pub spanContent : Switches → (start stop : ℕ) → List ℕ → Op
 spanContent sw start stop text = cond (isSpan start stop text) (contentAlone sw (part start stop text)) none
 
 -- what the call answers: the content, or a refusal
-pub data Answer : Type 0 where
-  given : (content : List ℕ) → Answer
-  refused : (number : ℕ) → Answer
+pub data ContentAnswer : Type 0 where
+  given : (content : List ℕ) → ContentAnswer
+  refused : (number : ℕ) → ContentAnswer
 
 -- 19 "span isn't one string or key", 20 "content longer than the output"; "19 goes before 20"
-unfoldable pub fitting : (room : ℕ) → Option (List ℕ) → Answer
+unfoldable pub fitting : (room : ℕ) → Option (List ℕ) → ContentAnswer
 fitting room none = refused 19
 fitting room (some content) = cond (leb (length content) room) (given content) (refused 20)
 
 -- what the content call answers, with this text and output
-unfoldable pub contentCall : Switches → (start stop : ℕ) (text out : List ℕ) → Answer
+unfoldable pub contentCall : Switches → (start stop : ℕ) (text out : List ℕ) → ContentAnswer
 contentCall sw start stop text out = fitting (length out) (spanContent sw start stop text)
 
 -- "writes its content at the output's front; the rest of the output stays"; "both write nothing"
-unfoldable pub written : Answer → List ℕ → List ℕ
+unfoldable pub written : ContentAnswer → List ℕ → List ℕ
 written (given content) out = content ++ drop (length content) out
 written (refused number) out = out
 
 -- the code's enum for each case: the bytes written, or the number of the refusal
-unfoldable pub answered : Answer → Given
-answered (given content) = G.Bytes (length content)
-answered (refused number) = G.Refused number
+unfoldable pub contentGiven : ContentAnswer → Given
+contentGiven (given content) = G.Bytes (length content)
+contentGiven (refused number) = G.Refused number
 
 -- "refusal times 4294967296 plus the bytes written"
-unfoldable pub contentNumber : Answer → ℕ
+unfoldable pub contentNumber : ContentAnswer → ℕ
 contentNumber (given content) = length content
 contentNumber (refused number) = number * 4294967296

@@ -86,7 +86,7 @@ wordOf table node i = getD table (nodeWords * node + i) 0
 -- ---- one value alone
 
 -- the value runs "from its first byte to its last"
-unfoldable pub spans : (length : ℕ) → Outcome → Bool
+unfoldable pub spans : (n : ℕ) → Outcome → Bool
 spans n (taken tree) = eqb (headOf tree .value .start) 0 && eqb (headOf tree .value .stop) n
 spans n (refused number place) = false
 

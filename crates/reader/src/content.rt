@@ -2,7 +2,7 @@
 ghost use mathlib.Core.Path.{_≡_};
 ghost use lib.ListN.{length};
 ghost use Rattle.text.specs.Switches.{presentEdition};
-ghost use Rattle.reader.specs.Content.{contentAlone, fitting, contentCall, answered, written};
+ghost use Rattle.reader.specs.Content.{contentAlone, fitting, contentCall, contentGiven, written};
 use lexer::token::put_token;
 use literals::content::Written;
 use text::refusal::NO_STRING;
@@ -20,7 +20,7 @@ pub enum Given {
 
 // Writes the content of a token at the output's front, if the bytes are one string or key and the output has room for it.
 fn token_content(sw: Switches, token: &[u8], out: &mut [u8]) -> Given
-    ensures { λ r. ⌜ (r ≡ answered (fitting (length (now (out .entry))) (contentAlone sw (now (token .entry))))) × (now (out .exit) ≡ written (fitting (length (now (out .entry))) (contentAlone sw (now (token .entry)))) (now (out .entry))) ⌝ }
+    ensures { λ r. ⌜ (r ≡ contentGiven (fitting (length (now (out .entry))) (contentAlone sw (now (token .entry))))) × (now (out .exit) ≡ written (fitting (length (now (out .entry))) (contentAlone sw (now (token .entry)))) (now (out .entry))) ⌝ }
 {
     if valid_front(token) != token.len() {
         return Given::Refused(NO_STRING);
@@ -35,7 +35,7 @@ fn token_content(sw: Switches, token: &[u8], out: &mut [u8]) -> Given
 // Writes the content of the string or key that stands in the text, of the edition that `sw` says, from `start` to before `end` at the
 // output's front.
 pub fn content_edition(sw: Switches, text: &[u8], start: usize, end: usize, out: &mut [u8]) -> Given
-    ensures { λ r. ⌜ (r ≡ answered (contentCall sw start end (now (text .entry)) (now (out .entry)))) × (now (out .exit) ≡ written (contentCall sw start end (now (text .entry)) (now (out .entry))) (now (out .entry))) ⌝ }
+    ensures { λ r. ⌜ (r ≡ contentGiven (contentCall sw start end (now (text .entry)) (now (out .entry)))) × (now (out .exit) ≡ written (contentCall sw start end (now (text .entry)) (now (out .entry))) (now (out .entry))) ⌝ }
 {
     if end < start {
         return Given::Refused(NO_STRING);
@@ -51,7 +51,7 @@ pub fn content_edition(sw: Switches, text: &[u8], start: usize, end: usize, out:
 
 // The same for a text of the present edition.
 pub fn content(text: &[u8], start: usize, end: usize, out: &mut [u8]) -> Given
-    ensures { λ r. ⌜ (r ≡ answered (contentCall presentEdition start end (now (text .entry)) (now (out .entry)))) × (now (out .exit) ≡ written (contentCall presentEdition start end (now (text .entry)) (now (out .entry))) (now (out .entry))) ⌝ }
+    ensures { λ r. ⌜ (r ≡ contentGiven (contentCall presentEdition start end (now (text .entry)) (now (out .entry)))) × (now (out .exit) ≡ written (contentCall presentEdition start end (now (text .entry)) (now (out .entry))) (now (out .entry))) ⌝ }
 {
     content_edition(present(), text, start, end, out)
 }

@@ -1,5 +1,5 @@
 // Keys: whether one stands among the keys of an object's children so far, which are found by following word 8.
-ghost use Rattle.reader.specs.Internal.Values.{Chained, KeyHere, FoundKey};
+ghost use Rattle.reader.specs.Internal.Values.{HaveKeys, KeyHere, FoundKey};
 use super::rows::KEY_START;
 use super::rows::KEY_STOP;
 use super::rows::NEXT;
@@ -19,7 +19,7 @@ pub(crate) fn find_key(
     children: Children,
     key: Span,
 ) -> bool
-    requires { ⌜ Chained sw (now text) (now table) (children .first) (children .next) ⌝ }
+    requires { ⌜ HaveKeys sw (now text) (now table) (children .first) (children .next) ⌝ }
     requires { ⌜ KeyHere sw (now text) (key .start) (key .stop) ⌝ }
     ensures { λ r. ⌜ FoundKey sw (now (text .entry)) (now (table .entry)) (children .first) (children .next) (key .start) (key .stop) r ⌝ }
 {

@@ -16,7 +16,7 @@ use super::tree::MAX_DEPTH;
 use super::tree::MAX_NODES;
 use super::tree::Rules;
 use super::tree::Spot;
-use super::values::Answer;
+use super::values::Progress;
 use super::values::fresh_due;
 use super::values::read_value;
 use lexer::item::Next;
@@ -76,8 +76,8 @@ fn read_whole(rules: Rules, text: &[u8], table: &mut [u32], any: bool) -> Whole
             };
             let due = fresh_due(any, token.span.start, Span { start: 0, stop: 0 }, spot);
             match read_value(rules, text, table, due, token) {
-                Answer::Refused(refusal) => Whole::Refused(refusal),
-                Answer::Done(stop, nodes) => only_value(
+                Progress::Refused(refusal) => Whole::Refused(refusal),
+                Progress::Done(stop, nodes) => only_value(
                     rules.sw,
                     text,
                     token.span.start,

@@ -18,7 +18,7 @@ ghost use Rattle.reader.specs.Internal.Values.{
   rowOf,
   branchWords,
   RowRoom,
-  leafAnswer,
+  leafProgress,
   leafTable,
   Ready,
   Placed,
@@ -54,7 +54,7 @@ use text::refusal::UNEXPECTED;
 use text::span::Span;
 
 // A value was read: the place after it, and the number of nodes then; or a refusal.
-pub enum Answer {
+pub enum Progress {
     Done(usize, usize),
     Refused(Refusal),
 }
@@ -137,35 +137,35 @@ fn is_full(limits: Limits, due: Due) -> bool
 // ---- rows
 
 // A value that holds no others, with its own words.
-fn put_leaf(limits: Limits, table: &mut [u32], due: Due, span: Span, words: Words) -> Answer
+fn put_leaf(limits: Limits, table: &mut [u32], due: Due, span: Span, words: Words) -> Progress
     requires { ⌜ Ready limits (now table) due ⌝ }
     requires { ⌜ span .stop ≤ maxText ⌝ }
-    ensures { λ r. ⌜ r ≡ leafAnswer limits due span ⌝ }
+    ensures { λ r. ⌜ r ≡ leafProgress limits due span ⌝ }
     ensures { λ _. ⌜ now (table .exit) ≡ leafTable limits due span words (now (table .entry)) ⌝ }
 {
     let place = span.start;
     if due.any {
         if is_full(limits, due) {
-            return Answer::Refused(Refusal {
+            return Progress::Refused(Refusal {
                 number: NO_NODE_LEFT,
                 place,
             });
         }
         let next = due.spot.node + 1;
         put_row(table, due, words, span.stop, next);
-        return Answer::Done(span.stop, next);
+        return Progress::Done(span.stop, next);
     }
-    Answer::Refused(Refusal {
+    Progress::Refused(Refusal {
         number: UNEXPECTED,
         place,
     })
 }
 
 // A container that ends at `stop`, with all its children.
-fn put_branch(table: &mut [u32], due: Due, kind: Kind, children: Children, stop: usize) -> Answer
+fn put_branch(table: &mut [u32], due: Due, kind: Kind, children: Children, stop: usize) -> Progress
     requires { ⌜ RowRoom (now table) due stop (children .next) ⌝ }
     requires { ⌜ children .count ≤ children .next ⌝ }
-    ensures { λ r. ⌜ r ≡ Answer.Done stop (children .next) ⌝ }
+    ensures { λ r. ⌜ r ≡ Progress.Done stop (children .next) ⌝ }
     ensures { λ _. ⌜ now (table .exit) ≡ sets (now (table .entry)) (nodeWords * due .spot .node) (rowOf due (branchWords kind (children .count)) stop (children .next)) ⌝ }
 {
     let words = Words {
@@ -175,7 +175,7 @@ fn put_branch(table: &mut [u32], due: Due, kind: Kind, children: Children, stop:
         extra: 0,
     };
     put_row(table, due, words, stop, children.next);
-    Answer::Done(stop, children.next)
+    Progress::Done(stop, children.next)
 }
 
 // ---- the cycle
@@ -187,7 +187,7 @@ pub(crate) fn read_value(
     table: &mut [u32],
     due: Due,
     token: Token,
-) -> Answer
+) -> Progress
     requires { ⌜ Ready (rules .limits) (now table) due ⌝ }
     requires { ⌜ IsToken (rules .sw) (now text) token ⌝ }
     requires { ⌜ length (now text) ≤ maxText ⌝ }
@@ -198,7 +198,7 @@ pub(crate) fn read_value(
         Begin::Container(kind) => read_container(rules, text, table, due, kind, token.span),
         Begin::Scalar(words) => put_leaf(rules.limits, table, due, token.span, words),
         Begin::Identifier => read_identifier(rules, text, table, due, token.span),
-        Begin::Nothing => Answer::Refused(Refusal {
+        Begin::Nothing => Progress::Refused(Refusal {
             number: UNEXPECTED,
             place,
         }),
@@ -213,7 +213,7 @@ fn read_container(
     due: Due,
     kind: Kind,
     bracket: Span,
-) -> Answer
+) -> Progress
     requires { ⌜ Ready (rules .limits) (now table) due ⌝ }
     requires { ⌜ Placed (now text) bracket ⌝ }
     ensures { λ r. ⌜ ReadAs rules (now (text .entry)) due bracket (container kind) (now (table .entry)) (now (table .exit)) r ⌝ }
@@ -221,13 +221,13 @@ fn read_container(
     let place = bracket.start;
     let spot = due.spot;
     if rules.limits.depth <= spot.depth {
-        return Answer::Refused(Refusal {
+        return Progress::Refused(Refusal {
             number: TOO_DEEP,
             place,
         });
     }
     if is_full(rules.limits, due) {
-        return Answer::Refused(Refusal {
+        return Progress::Refused(Refusal {
             number: NO_NODE_LEFT,
             place,
         });
@@ -241,17 +241,17 @@ fn read_container(
     };
     loop {
         match next_item(rules.sw, text, table, kind, children, from) {
-            Item::Refused(refusal) => return Answer::Refused(refusal),
+            Item::Refused(refusal) => return Progress::Refused(refusal),
             Item::Last(end) => return put_branch(table, due, kind, children, end),
             Item::Value { token, key } => {
                 let child = child_due(spot, children.next, token.span.start, key);
                 match read_value(rules, text, table, child, token) {
-                    Answer::Refused(refusal) => return Answer::Refused(refusal),
-                    Answer::Done(stop, next) => {
+                    Progress::Refused(refusal) => return Progress::Refused(refusal),
+                    Progress::Done(stop, next) => {
                         children.next = next;
                         children.count += 1;
                         match after_item(rules.sw, text, kind, stop) {
-                            After::Refused(refusal) => return Answer::Refused(refusal),
+                            After::Refused(refusal) => return Progress::Refused(refusal),
                             After::Over(end) => return put_branch(table, due, kind, children, end),
                             After::More(comma) => from = comma,
                         }
@@ -263,34 +263,34 @@ fn read_container(
 }
 
 // The identifier with this name, and the value in its bracket.
-fn read_identifier(rules: Rules, text: &[u8], table: &mut [u32], due: Due, name: Span) -> Answer
+fn read_identifier(rules: Rules, text: &[u8], table: &mut [u32], due: Due, name: Span) -> Progress
     requires { ⌜ Ready (rules .limits) (now table) due ⌝ }
     requires { ⌜ Placed (now text) name ⌝ }
     ensures { λ r. ⌜ ReadAs rules (now (text .entry)) due name identifier (now (table .entry)) (now (table .exit)) r ⌝ }
 {
     let place = name.start;
     if !due.fresh {
-        return Answer::Refused(Refusal {
+        return Progress::Refused(Refusal {
             number: UNEXPECTED,
             place,
         });
     }
     if rules.limits.nodes <= due.spot.node {
-        return Answer::Refused(Refusal {
+        return Progress::Refused(Refusal {
             number: NO_NODE_LEFT,
             place,
         });
     }
     let inner = named_due(due, name);
     match token_after(rules.sw, text, name.stop, b'(') {
-        Ahead::Refused(refusal) => Answer::Refused(refusal),
+        Ahead::Refused(refusal) => Progress::Refused(refusal),
         Ahead::Token(token) => match read_value(rules, text, table, inner, token) {
-            Answer::Refused(refusal) => Answer::Refused(refusal),
-            Answer::Done(stop, next) => match one_mark(rules.sw, text, stop, b')') {
-                Only::Refused(refusal) => Answer::Refused(refusal),
+            Progress::Refused(refusal) => Progress::Refused(refusal),
+            Progress::Done(stop, next) => match one_mark(rules.sw, text, stop, b')') {
+                Only::Refused(refusal) => Progress::Refused(refusal),
                 Only::At(end) => {
                     put_stop(table, due.spot.node, end as u32);
-                    Answer::Done(end, next)
+                    Progress::Done(end, next)
                 }
             },
         },

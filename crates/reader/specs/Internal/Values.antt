@@ -26,8 +26,8 @@ use Rattle.reader.specs.declared.tree.Children.{Children}
 use Rattle.reader.specs.declared.tree.Words.{Words}
 use Rattle.reader.specs.declared.items.Item.{Item}
 use Rattle.reader.specs.declared.items.Item.the-variants as I
-use Rattle.reader.specs.declared.values.Answer.{Answer}
-use Rattle.reader.specs.declared.values.Answer.the-variants as A
+use Rattle.reader.specs.declared.values.Progress.{Progress}
+use Rattle.reader.specs.declared.values.Progress.the-variants as A
 use Rattle.reader.specs.Tree.{Span, Tree, branch, Forest, size, headOf, rows, kindNumber, nodeWords}
 use Rattle.reader.specs.Reading.{maxText, maxNodes, wordOf}
 use Rattle.reader.specs.Syntax.{Label, label, Frame, frame, Slot, first, more, value, inside, Config, config, Begins, begins, spanOf, isObject, headBy, ended, valueStep, Outcome, refused, afterStep, run, holds}
@@ -134,14 +134,14 @@ pub record Link (sw : Switches) (s tab : List ℕ) (x m : ℕ) (w : List ℕ) : 
   pub key : KeyAt sw s (wordOf tab x 4) (wordOf tab x 5) w
 
 -- the nodes from x to m, side by side, have keys with these contents
-abbrev pub Chain : Switches → List ℕ → List ℕ → ℕ → ℕ → List (List ℕ) → Type 0
-Chain sw s tab x m [] = x ≡ m
-Chain sw s tab x m (w ∷ ks) = Link sw s tab x m w × Chain sw s tab (wordOf tab x 8) m ks
+abbrev pub SiblingKeys : Switches → List ℕ → List ℕ → ℕ → ℕ → List (List ℕ) → Type 0
+SiblingKeys sw s tab x m [] = x ≡ m
+SiblingKeys sw s tab x m (w ∷ ks) = Link sw s tab x m w × SiblingKeys sw s tab (wordOf tab x 8) m ks
 
 -- the nodes from x to m, side by side, have keys
-pub record Chained (sw : Switches) (s tab : List ℕ) (x m : ℕ) : Type 0 where
+pub record HaveKeys (sw : Switches) (s tab : List ℕ) (x m : ℕ) : Type 0 where
   pub keys : List (List ℕ)
-  pub chain : Chain sw s tab x m keys
+  pub siblings : SiblingKeys sw s tab x m keys
 
 -- some key stands from a to e
 pub record KeyHere (sw : Switches) (s : List ℕ) (a e : ℕ) : Type 0 where
@@ -150,7 +150,7 @@ pub record KeyHere (sw : Switches) (s : List ℕ) (a e : ℕ) : Type 0 where
 
 -- whether the key from a to e is among those of the nodes from x to m
 pub record FoundKey (sw : Switches) (s tab : List ℕ) (x m a e : ℕ) (r : Bool) : Type 0 where
-  pub is : (w : List ℕ) → KeyAt sw s a e w → (ks : List (List ℕ)) → Chain sw s tab x m ks → r ≡ holds ks w
+  pub is : (w : List ℕ) → KeyAt sw s a e w → (ks : List (List ℕ)) → SiblingKeys sw s tab x m ks → r ≡ holds ks w
 
 -- ---- the items of a container
 
@@ -164,13 +164,13 @@ innerAt kind l ts ks stack m z = config (frame kind l ts ks ∷ stack) (inside (
 
 -- the children so far, as the code knows them: in an object, their rows in the table from x to m
 pub record Known (sw : Switches) (s : List ℕ) (kind : Kind) (tab : List ℕ) (x m : ℕ) (ks : List (List ℕ)) : Type 0 where
-  pub chain : isObject kind ≡ true → Chain sw s tab x m ks
+  pub siblings : isObject kind ≡ true → SiblingKeys sw s tab x m ks
 
 -- what a reader of an item is handed
 pub record Look (sw : Switches) (s : List ℕ) (kind : Kind) (tab : List ℕ) (c : Children) (from : ℕ) : Type 0 where
   pub inside : from ≤ length s
   pub short : length s ≤ maxText
-  pub chained : isObject kind ≡ true → Chained sw s tab (c .first) (c .next)
+  pub siblings : isObject kind ≡ true → HaveKeys sw s tab (c .first) (c .next)
 
 -- a child's first token comes, with its key from a to b
 pub record Valued (sw : Switches) (s : List ℕ) (kind : Kind) (tab : List ℕ) (i x m z : ℕ) (k : TokenKind) (start stop a b : ℕ) : Type 0 where
@@ -237,8 +237,8 @@ abbrev pub isFull : Limits → Due → Bool
 isFull limits due = due .fresh && leb (limits .nodes) (due .spot .node)
 
 -- a value that holds no others, by its token: 7 where a container is due, 10
-unfoldable pub leafAnswer : Limits → Due → CS.Span → Answer
-leafAnswer limits due span =
+unfoldable pub leafProgress : Limits → Due → CS.Span → Progress
+leafProgress limits due span =
     cond (due .any) (cond (isFull limits due) (A.Refused (refusal 10 (span .start))) (A.Done (span .stop) (due .spot .node + 1)))
     (A.Refused (refusal 7 (span .start)))
 
@@ -248,7 +248,7 @@ leafTable limits due span w tab =
     cond (due .any) (cond (isFull limits due) tab (sets tab (nodeWords * due .spot .node) (rowOf due w (span .stop) (due .spot .node + 1)))) tab
 
 -- a value with the label l was read up to j, and its identifier's bracket is still due if it has one
-pub record Took (sw : Switches) (limits : Limits) (s : List ℕ) (ω : List Frame → Outcome) (l : Label) (o d parent n : ℕ) (tin tout : List ℕ) (j m : ℕ) : Type 0 where
+pub record ValueRead (sw : Switches) (limits : Limits) (s : List ℕ) (ω : List Frame → Outcome) (l : Label) (o d parent n : ℕ) (tin tout : List ℕ) (j m : ℕ) : Type 0 where
   pub tree : Tree
   pub keyed : headOf tree .key ≡ l .key
   pub begun : headOf tree .value .start ≡ l .start
@@ -261,19 +261,19 @@ pub record Took (sw : Switches) (limits : Limits) (s : List ℕ) (ω : List Fram
   pub ran : (stack : List Frame) → length stack ≡ d → ω stack ≡ runFrom sw limits s j (ended stack m (l .name) tree)
 
 -- the machine refuses, and the words of the nodes before n are as they were
-pub record Stops (ω : List Frame → Outcome) (d n : ℕ) (tin tout : List ℕ) (number place : ℕ) : Type 0 where
+pub record ValueRefused (ω : List Frame → Outcome) (d n : ℕ) (tin tout : List ℕ) (number place : ℕ) : Type 0 where
   pub ran : (stack : List Frame) → length stack ≡ d → ω stack ≡ refused number place
   pub kept : (i : ℕ) → i < nodeWords * n → getD tout i 0 ≡ getD tin i 0
 
--- `Took` or `Stops`, by the code's answer
-abbrev pub RanIs : Switches → Limits → List ℕ → (List Frame → Outcome) → Label → (o d parent n : ℕ) (tin tout : List ℕ) → Answer → Type 0
-RanIs sw limits s ω l o d parent n tin tout (A.Done j m) = Took sw limits s ω l o d parent n tin tout j m
-RanIs sw limits s ω l o d parent n tin tout (A.Refused f) = Stops ω d n tin tout (f .number) (f .place)
+-- `ValueRead` or `ValueRefused`, by the code's answer
+abbrev pub ProgressIs : Switches → Limits → List ℕ → (List Frame → Outcome) → Label → (o d parent n : ℕ) (tin tout : List ℕ) → Progress → Type 0
+ProgressIs sw limits s ω l o d parent n tin tout (A.Done j m) = ValueRead sw limits s ω l o d parent n tin tout j m
+ProgressIs sw limits s ω l o d parent n tin tout (A.Refused f) = ValueRefused ω d n tin tout (f .number) (f .place)
 
 -- what the text comes to where a value is due, and its token begins b
 abbrev pub openedBy : Rules → List ℕ → Due → CS.Span → Begins → List Frame → Outcome
 openedBy rules s due span b = opened (rules .sw) (rules .limits) s (span .start) (span .stop) (due .fresh) (due .any) (labelOf (due .label)) (due .spot .node) b
 
 -- the value that is due was read, or refused, from a token that begins b
-pub record ReadAs (rules : Rules) (s : List ℕ) (due : Due) (span : CS.Span) (b : Begins) (tin tout : List ℕ) (r : Answer) : Type 0 where
-  pub is : RanIs (rules .sw) (rules .limits) s (openedBy rules s due span b) (labelOf (due .label)) (span .start) (due .spot .depth) (due .spot .parent) (due .spot .node) tin tout r
+pub record ReadAs (rules : Rules) (s : List ℕ) (due : Due) (span : CS.Span) (b : Begins) (tin tout : List ℕ) (r : Progress) : Type 0 where
+  pub is : ProgressIs (rules .sw) (rules .limits) s (openedBy rules s due span b) (labelOf (due .label)) (span .start) (due .spot .depth) (due .spot .parent) (due .spot .node) tin tout r

@@ -1,3 +1,5 @@
+-- made by tools/proof.py from answers/begin/begin_of (answers a7b72461f04e, proof afc08f99a556): edit that file, not this one
+use borrow.Author.Needs.{needs}
 use native.Mathlib.Omega.{arith}
 use mathlib.Core.Path.{sym, ap, subst, _∙_}
 use lib.IntN.{ℤ}
@@ -6,15 +8,8 @@ use mir.Facts.{toZ-ofZ}
 use Rattle.reader.specs.Tree.{integer, decimal}
 use Rattle.reader.specs.Internal.Tokens.{leafOf, DecimalFits}
 use Rattle.reader.proofs.BeginLaws.{mark-begun, word-begun, text-begun, bytes-begun, integer-begun, decimal-begun, text-fits, bytes-fits, decimal-fits}
-use borrow.Author.Needs.{needs}
 use Rattle.reader.proofs.begin.begin_of.Statement.{statement}
 use Rattle.reader.proofs.begin.begin_of.Tie as tie
-use Rattle.reader.proofs.begin.begin_of.Reads as reads
-use Rattle.reader.proofs.begin.begin_of.Lts as lts
-use Rattle.reader.proofs.begin.decimal_leaf.Reads as decimal-leaf-reads
-use Rattle.reader.proofs.begin.integer_leaf.Reads as integer-leaf-reads
-use Rattle.reader.proofs.begin.mark_begin.Reads as mark-begin-reads
-use Rattle.reader.proofs.begin.word_begin.Reads as word-begin-reads
 
 enum-known-kind : tie.Need-enum-known-kind
 enum-known-kind c = search needs
@@ -47,7 +42,9 @@ cast-t20 : tie.Need-cast-t20
 cast-t20 c = search needs
 
 cast-t21 : tie.Need-cast-t21
-cast-t21 c = let h = text-fits (c .before .before .before .before .args .sw) (c .before .before .before .before .args .text .now) (c .before .before .before .before .args .token .span .start) (c .before .before .before .before .args .token .span .stop) (c .before .before .before .before .args .token .kind) (c .before .before .before .before .pre .0) (c .before .kind2 .given .0 .0) (c .before .kind2 .given .1) in omega arith
+cast-t21 c =
+    let the-args = c .before .before .before .before .args in
+    let h = text-fits (the-args .sw) (the-args .text .now) (the-args .token .span .start) (the-args .token .span .stop) (the-args .token .kind) (c .before .before .before .before .pre .0) (c .before .kind2 .given .0 .0) (c .before .kind2 .given .1) in omega arith
 
 enum-known-kind-3 : tie.Need-enum-known-kind-3
 enum-known-kind-3 c = search needs
@@ -59,7 +56,9 @@ cast-t24 : tie.Need-cast-t24
 cast-t24 c = search needs
 
 cast-t25 : tie.Need-cast-t25
-cast-t25 c = let h = bytes-fits (c .before .before .before .before .args .sw) (c .before .before .before .before .args .text .now) (c .before .before .before .before .args .token .span .start) (c .before .before .before .before .args .token .span .stop) (c .before .before .before .before .args .token .kind) (c .before .before .before .before .pre .0) (c .before .kind3 .given .0 .0) (c .before .kind3 .given .1) in omega arith
+cast-t25 c =
+    let the-args = c .before .before .before .before .args in
+    let h = bytes-fits (the-args .sw) (the-args .text .now) (the-args .token .span .start) (the-args .token .span .stop) (the-args .token .kind) (c .before .before .before .before .pre .0) (c .before .kind3 .given .0 .0) (c .before .kind3 .given .1) in omega arith
 
 enum-known-kind-4 : tie.Need-enum-known-kind-4
 enum-known-kind-4 c = search needs
@@ -71,55 +70,49 @@ enum-known-kind-5 : tie.Need-enum-known-kind-5
 enum-known-kind-5 c = search needs
 
 decimal-leaf-requires : tie.Need-decimal-leaf-requires
-decimal-leaf-requires c κs = subst (λ (y : ℤ). DecimalFits (c .before .kind5 .given .0 .1 .0) y) (sym (toZ-ofZ {w = w64} {z = c .before .kind5 .given .0 .1 .1 .0} (record { sfits = c .known-told5 .given .1 .1 .0 .1 })))
-    (decimal-fits (c .before .before .before .before .args .sw) (c .before .before .before .before .args .text .now) (c .before .before .before .before .args .token .span .start) (c .before .before .before .before .args .token .span .stop) (c .before .before .before .before .args .token .kind) (c .before .before .before .before .pre .0) (c .before .kind5 .given .0 .0) (c .before .kind5 .given .0 .1 .0) (c .before .kind5 .given .0 .1 .1 .0) (c .before .kind5 .given .1))
+decimal-leaf-requires c κs =
+    let the-args = c .before .before .before .before .args in
+    subst (λ (y : ℤ). DecimalFits (c .before .kind5 .given .0 .1 .0) y) (sym (toZ-ofZ {w = w64} {z = c .before .kind5 .given .0 .1 .1 .0} (record { sfits = c .known-told5 .given .1 .1 .0 .1 })))
+    (decimal-fits (the-args .sw) (the-args .text .now) (the-args .token .span .start) (the-args .token .span .stop) (the-args .token .kind) (c .before .before .before .before .pre .0) (c .before .kind5 .given .0 .0) (c .before .kind5 .given .0 .1 .0) (c .before .kind5 .given .0 .1 .1 .0) (c .before .kind5 .given .1))
 
 returns : tie.Need-returns
-returns c = mark-begun (c .before .before .before .before .before .args .sw) (c .before .before .before .before .before .args .text .now) (c .before .before .before .before .before .args .token .span .start) (c .before .before .before .before .before .args .token .span .stop) (c .before .before .before .before .before .args .token .kind) (c .before .before .before .before .before .pre .0) (c .before .before .kind .given .0 .0) (c .mark-begin .result) (c .before .before .kind .given .1) (c .mark-begin .ensures)
+returns c =
+    let the-args = c .before .before .before .before .before .args in
+    let the-kind = c .before .before .kind in
+    mark-begun (the-args .sw) (the-args .text .now) (the-args .token .span .start) (the-args .token .span .stop) (the-args .token .kind) (c .before .before .before .before .before .pre .0) (the-kind .given .0 .0) (c .mark-begin .result) (the-kind .given .1) (c .mark-begin .ensures)
 
 returns-2 : tie.Need-returns-2
-returns-2 c = word-begun (c .before .before .before .before .before .args .sw) (c .before .before .before .before .before .args .text .now) (c .before .before .before .before .before .args .token .span .start) (c .before .before .before .before .before .args .token .span .stop) (c .before .before .before .before .before .args .token .kind) (c .before .before .before .before .before .pre .0) (c .word-begin .result) (c .before .before .enum-told .given .1) (c .word-begin .ensures)
+returns-2 c =
+    let the-args = c .before .before .before .before .before .args in
+    word-begun (the-args .sw) (the-args .text .now) (the-args .token .span .start) (the-args .token .span .stop) (the-args .token .kind) (c .before .before .before .before .before .pre .0) (c .word-begin .result) (c .before .before .enum-told .given .1) (c .word-begin .ensures)
 
 returns-3 : tie.Need-returns-3
-returns-3 c = text-begun (c .before .before .before .before .args .sw) (c .before .before .before .before .args .text .now) (c .before .before .before .before .args .token .span .start) (c .before .before .before .before .args .token .span .stop) (c .before .before .before .before .args .token .kind) (c .before .before .before .before .pre .0) (c .before .kind2 .given .0 .0) (c .before .kind2 .given .1)
+returns-3 c =
+    let the-args = c .before .before .before .before .args in
+    text-begun (the-args .sw) (the-args .text .now) (the-args .token .span .start) (the-args .token .span .stop) (the-args .token .kind) (c .before .before .before .before .pre .0) (c .before .kind2 .given .0 .0) (c .before .kind2 .given .1)
 
 returns-4 : tie.Need-returns-4
-returns-4 c = bytes-begun (c .before .before .before .before .args .sw) (c .before .before .before .before .args .text .now) (c .before .before .before .before .args .token .span .start) (c .before .before .before .before .args .token .span .stop) (c .before .before .before .before .args .token .kind) (c .before .before .before .before .pre .0) (c .before .kind3 .given .0 .0) (c .before .kind3 .given .1)
+returns-4 c =
+    let the-args = c .before .before .before .before .args in
+    bytes-begun (the-args .sw) (the-args .text .now) (the-args .token .span .start) (the-args .token .span .stop) (the-args .token .kind) (c .before .before .before .before .pre .0) (c .before .kind3 .given .0 .0) (c .before .kind3 .given .1)
 
 returns-5 : tie.Need-returns-5
-returns-5 c = integer-begun (c .before .before .before .before .before .args .sw) (c .before .before .before .before .before .args .text .now) (c .before .before .before .before .before .args .token .span .start) (c .before .before .before .before .before .args .token .span .stop) (c .before .before .before .before .before .args .token .kind) (c .before .before .before .before .before .pre .0) (c .before .before .kind4 .given .0 .0) (c .integer-leaf .result) (c .before .before .kind4 .given .1)
-    (c .integer-leaf .ensures ∙ ap (λ (y : ℤ). leafOf (integer y)) (toZ-ofZ {w = w64} {z = c .before .before .kind4 .given .0 .0} (record { sfits = c .before .known-told4 .given .0 .1 })))
+returns-5 c =
+    let the-args = c .before .before .before .before .before .args in
+    let the-kind4 = c .before .before .kind4 in
+    integer-begun (the-args .sw) (the-args .text .now) (the-args .token .span .start) (the-args .token .span .stop) (the-args .token .kind) (c .before .before .before .before .before .pre .0) (the-kind4 .given .0 .0) (c .integer-leaf .result) (the-kind4 .given .1)
+    (c .integer-leaf .ensures ∙ ap (λ (y : ℤ). leafOf (integer y)) (toZ-ofZ {w = w64} {z = the-kind4 .given .0 .0} (record { sfits = c .before .known-told4 .given .0 .1 })))
 
 returns-6 : tie.Need-returns-6
-returns-6 c = decimal-begun (c .before .before .before .before .before .args .sw) (c .before .before .before .before .before .args .text .now) (c .before .before .before .before .before .args .token .span .start) (c .before .before .before .before .before .args .token .span .stop) (c .before .before .before .before .before .args .token .kind) (c .before .before .before .before .before .pre .0) (c .before .before .kind5 .given .0 .0) (c .before .before .kind5 .given .0 .1 .0) (c .before .before .kind5 .given .0 .1 .1 .0) (c .decimal-leaf .result) (c .before .before .kind5 .given .1)
-    (c .decimal-leaf .ensures ∙ ap (λ (y : ℤ). leafOf (decimal (c .before .before .kind5 .given .0 .0) (c .before .before .kind5 .given .0 .1 .0) y)) (toZ-ofZ {w = w64} {z = c .before .before .kind5 .given .0 .1 .1 .0} (record { sfits = c .before .known-told5 .given .1 .1 .0 .1 })))
+returns-6 c =
+    let the-args = c .before .before .before .before .before .args in
+    let the-kind5 = c .before .before .kind5 in
+    decimal-begun (the-args .sw) (the-args .text .now) (the-args .token .span .start) (the-args .token .span .stop) (the-args .token .kind) (c .before .before .before .before .before .pre .0) (the-kind5 .given .0 .0) (the-kind5 .given .0 .1 .0) (the-kind5 .given .0 .1 .1 .0) (c .decimal-leaf .result) (the-kind5 .given .1)
+    (c .decimal-leaf .ensures ∙ ap (λ (y : ℤ). leafOf (decimal (the-kind5 .given .0 .0) (the-kind5 .given .0 .1 .0) y)) (toZ-ofZ {w = w64} {z = the-kind5 .given .0 .1 .1 .0} (record { sfits = c .before .known-told5 .given .1 .1 .0 .1 })))
 
 pub begin-of-spec : {M : Type 1} → statement M
 begin-of-spec =
-    tie.close
-    (tie.spec
-    enum-known-kind
-    mark-begin-requires
-    enum-told
-    sub-word-begin
-    part-word-begin-start
-    part-word-begin-end
-    word-begin-requires
-    enum-known-kind-2
-    cast-t19
-    cast-t20
-    cast-t21
-    enum-known-kind-3
-    cast-t23
-    cast-t24
-    cast-t25
-    enum-known-kind-4
-    integer-leaf-requires
-    enum-known-kind-5
-    decimal-leaf-requires
-    returns
-    returns-2
-    returns-3
-    returns-4
-    returns-5
-    returns-6)
+    tie.close (tie.spec enum-known-kind mark-begin-requires enum-told sub-word-begin part-word-begin-start
+    part-word-begin-end word-begin-requires enum-known-kind-2 cast-t19 cast-t20 cast-t21 enum-known-kind-3 cast-t23
+    cast-t24 cast-t25 enum-known-kind-4 integer-leaf-requires enum-known-kind-5 decimal-leaf-requires returns returns-2
+    returns-3 returns-4 returns-5 returns-6)

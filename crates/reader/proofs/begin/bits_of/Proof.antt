@@ -1,10 +1,8 @@
-use borrow.Author.Needs.{needs}
+-- made by tools/proof.py from answers/begin/bits_of (answers 75d2b7e2c61d, proof 36226451fe93): edit that file, not this one
 use native.Mathlib.Omega.{arith}
 use Rattle.reader.proofs.SignedLaws.{over, over-read, neg-bits, is-pos, pos-bits}
 use Rattle.reader.proofs.begin.bits_of.Statement.{statement}
 use Rattle.reader.proofs.begin.bits_of.Tie as tie
-use Rattle.reader.proofs.begin.bits_of.Reads as reads
-use Rattle.reader.proofs.begin.bits_of.Lts as lts
 
 sub-below : tie.Need-sub-below
 sub-below c = rw (over (c .before .args .value) (c .before .fits .value) (c .if1 .taken)) (record { sfits = c .before .fits .value .sfits })
@@ -25,4 +23,5 @@ returns-2 : tie.Need-returns-2
 returns-2 c = pos-bits (c .before .args .value) (c .before .fits .value) (c .if1 .left)
 
 pub bits-of-spec : {M : Type 1} → statement M
-bits-of-spec = tie.close (tie.spec sub-below cast-below sub-result returns cast-result returns-2)
+bits-of-spec =
+    tie.close (tie.spec sub-below cast-below sub-result returns cast-result returns-2)

@@ -1,11 +1,8 @@
-use borrow.Author.Needs.{needs}
-use native.Mathlib.Omega.{arith}
+-- made by tools/proof.py from answers/begin/mark_begin (answers 2ba60c9fb1f4, proof d82266c8f766): edit that file, not this one
 use borrow.Author.Tests.{eq-eqb, ne-eqb}
 use Rattle.reader.specs.Internal.Tokens.{markBegin}
 use Rattle.reader.proofs.begin.mark_begin.Statement.{statement}
 use Rattle.reader.proofs.begin.mark_begin.Tie as tie
-use Rattle.reader.proofs.begin.mark_begin.Reads as reads
-use Rattle.reader.proofs.begin.mark_begin.Lts as lts
 
 returns : tie.Need-returns
 unfolding markBegin
@@ -24,4 +21,5 @@ unfolding markBegin
 returns-4 c = rw (ne-eqb _ _ (c .before .before .if1 .left), ne-eqb _ _ (c .before .if2 .left), ne-eqb _ _ (c .if3 .left))
 
 pub mark-begin-spec : {M : Type 1} → statement M
-mark-begin-spec = tie.close (tie.spec returns returns-2 returns-3 returns-4)
+mark-begin-spec =
+    tie.close (tie.spec returns returns-2 returns-3 returns-4)

@@ -1,10 +1,9 @@
+-- made by tools/proof.py from answers/begin/opens_with_capital (answers 0a2b30003dcd, proof 0c5bc0e563e6): edit that file, not this one
+use borrow.Author.Needs.{needs}
 use native.Mathlib.Omega.{arith}
 use Rattle.reader.proofs.BeginLaws.{capital-none, capital-low, capital-from}
-use borrow.Author.Needs.{needs}
 use Rattle.reader.proofs.begin.opens_with_capital.Statement.{statement}
 use Rattle.reader.proofs.begin.opens_with_capital.Tie as tie
-use Rattle.reader.proofs.begin.opens_with_capital.Reads as reads
-use Rattle.reader.proofs.begin.opens_with_capital.Lts as lts
 
 returns : tie.Need-returns
 returns c = capital-none (c .before .args .word .now) (c .if1 .taken)

@@ -1,16 +1,12 @@
+-- made by tools/proof.py from answers/begin/word_begin (answers 7fc9e454ecb3, proof d772f069b803): edit that file, not this one
+use borrow.Author.Needs.{needs}
 use native.Mathlib.Omega.{arith}
 use mathlib.Core.Path.{sym, ap, _∙_}
 use Rattle.reader.specs.declared.tree.Begin.the-variants as B
 use Rattle.reader.specs.Tree.{scalarNumber, scalarWords}
 use Rattle.reader.specs.Internal.Tokens.{wordBegin, leafOf}
-use borrow.Author.Needs.{needs}
 use Rattle.reader.proofs.begin.word_begin.Statement.{statement}
 use Rattle.reader.proofs.begin.word_begin.Tie as tie
-use Rattle.reader.proofs.begin.word_begin.Reads as reads
-use Rattle.reader.proofs.begin.word_begin.Lts as lts
-use Rattle.reader.proofs.begin.opens_with_capital.Reads as opens-with-capital-reads
-use Rattle.reader.proofs.begin.plain_leaf.Reads as plain-leaf-reads
-use Rattle.text.proofs.bytes.same_bytes.Reads as same-bytes-reads
 
 slice-aggregate-same-bytes : tie.Need-slice-aggregate-same-bytes
 slice-aggregate-same-bytes c = omega arith
@@ -64,20 +60,6 @@ returns-5 c = rw (sym (c .before .before .before .before .before .before .before
 
 pub word-begin-spec : {M : Type 1} → statement M
 word-begin-spec =
-    tie.close
-    (tie.spec
-    slice-aggregate-same-bytes
-    same-bytes-requires
-    plain-leaf-requires
-    returns
-    slice-aggregate-same-bytes-2
-    same-bytes-requires-2
-    plain-leaf-requires-2
-    returns-2
-    slice-aggregate-same-bytes-3
-    same-bytes-requires-3
-    plain-leaf-requires-3
-    returns-3
-    opens-with-capital-requires
-    returns-4
-    returns-5)
+    tie.close (tie.spec slice-aggregate-same-bytes same-bytes-requires plain-leaf-requires returns
+    slice-aggregate-same-bytes-2 same-bytes-requires-2 plain-leaf-requires-2 returns-2 slice-aggregate-same-bytes-3
+    same-bytes-requires-3 plain-leaf-requires-3 returns-3 opens-with-capital-requires returns-4 returns-5)

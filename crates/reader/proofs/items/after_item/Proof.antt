@@ -1,14 +1,9 @@
-use native.Mathlib.Omega.{arith}
+-- made by tools/proof.py from answers/items/after_item (answers 580dffa8bd38, proof 0006a784ed8e): edit that file, not this one
+use borrow.Author.Needs.{needs}
 use mathlib.Core.Path.{sym, ap, _∙_}
 use Rattle.reader.specs.Internal.Ahead.{markIs, followsBy}
-use borrow.Author.Needs.{needs}
 use Rattle.reader.proofs.items.after_item.Statement.{statement}
 use Rattle.reader.proofs.items.after_item.Tie as tie
-use Rattle.reader.proofs.items.after_item.Reads as reads
-use Rattle.reader.proofs.items.after_item.Lts as lts
-use Rattle.reader.proofs.items.closer_of.Reads as closer-of-reads
-use Rattle.reader.proofs.items.is_mark.Reads as is-mark-reads
-use Rattle.reader.proofs.items.token_from.Reads as token-from-reads
 
 closer-of-requires : tie.Need-closer-of-requires
 closer-of-requires c κs = search needs
@@ -46,15 +41,5 @@ returns-4 c = sym (ap (followsBy (c .before .before .before .before .before .bef
 
 pub after-item-spec : {M : Type 1} → statement M
 after-item-spec =
-    tie.close
-    (tie.spec
-    closer-of-requires
-    token-from-requires
-    enum-known-token
-    is-mark-requires
-    returns
-    is-mark-requires-2
-    returns-2
-    enum-known-refusal
-    returns-3
-    returns-4)
+    tie.close (tie.spec closer-of-requires token-from-requires enum-known-token is-mark-requires returns
+    is-mark-requires-2 returns-2 enum-known-refusal returns-3 returns-4)

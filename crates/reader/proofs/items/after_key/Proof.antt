@@ -1,12 +1,9 @@
-use native.Mathlib.Omega.{arith}
+-- made by tools/proof.py from answers/items/after_key (answers 10d792231eef, proof 8fd68f61f7e2): edit that file, not this one
+use borrow.Author.Needs.{needs}
 use mathlib.Core.Path.{sym, ap, _∙_}
 use Rattle.reader.specs.Internal.Ahead.{keyedItem}
-use borrow.Author.Needs.{needs}
 use Rattle.reader.proofs.items.after_key.Statement.{statement}
 use Rattle.reader.proofs.items.after_key.Tie as tie
-use Rattle.reader.proofs.items.after_key.Reads as reads
-use Rattle.reader.proofs.items.after_key.Lts as lts
-use Rattle.reader.proofs.items.token_after.Reads as token-after-reads
 
 token-after-requires : tie.Need-token-after-requires
 token-after-requires c κs = search needs

@@ -1,11 +1,9 @@
-use native.Mathlib.Omega.{arith}
+-- made by tools/proof.py from answers/items/is_key (answers 89e12fc24750, proof bf22ae44f28c): edit that file, not this one
+use borrow.Author.Needs.{needs}
 use mathlib.Core.Path.{sym, ap, _∙_}
 use Rattle.reader.specs.Internal.Ahead.{isKey}
-use borrow.Author.Needs.{needs}
 use Rattle.reader.proofs.items.is_key.Statement.{statement}
 use Rattle.reader.proofs.items.is_key.Tie as tie
-use Rattle.reader.proofs.items.is_key.Reads as reads
-use Rattle.reader.proofs.items.is_key.Lts as lts
 
 enum-told : tie.Need-enum-told
 enum-told c = search needs
@@ -51,17 +49,5 @@ returns-6 c = sym (ap isKey (c .enum-told6 .given .1))
 
 pub is-key-spec : {M : Type 1} → statement M
 is-key-spec =
-    tie.close
-    (tie.spec
-    enum-told
-    enum-told-2
-    enum-told-3
-    enum-told-4
-    enum-told-5
-    enum-told-6
-    returns
-    returns-2
-    returns-3
-    returns-4
-    returns-5
-    returns-6)
+    tie.close (tie.spec enum-told enum-told-2 enum-told-3 enum-told-4 enum-told-5 enum-told-6 returns returns-2
+    returns-3 returns-4 returns-5 returns-6)

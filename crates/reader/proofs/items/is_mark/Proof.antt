@@ -1,12 +1,10 @@
-use native.Mathlib.Omega.{arith}
+-- made by tools/proof.py from answers/items/is_mark (answers e14fc2cb6880, proof b4c80397758e): edit that file, not this one
+use borrow.Author.Needs.{needs}
 use mathlib.Core.Path.{sym, ap, _∙_}
 use Rattle.lexer.specs.declared.item.TokenKind.{TokenKind}
 use Rattle.reader.specs.Internal.Ahead.{markIs}
-use borrow.Author.Needs.{needs}
 use Rattle.reader.proofs.items.is_mark.Statement.{statement}
 use Rattle.reader.proofs.items.is_mark.Tie as tie
-use Rattle.reader.proofs.items.is_mark.Reads as reads
-use Rattle.reader.proofs.items.is_mark.Lts as lts
 
 enum-known-kind : tie.Need-enum-known-kind
 enum-known-kind c = search needs
@@ -52,17 +50,5 @@ returns-6 c = sym (ap (λ (x : TokenKind). markIs x (c .before .before .args .b)
 
 pub is-mark-spec : {M : Type 1} → statement M
 is-mark-spec =
-    tie.close
-    (tie.spec
-    enum-known-kind
-    enum-told
-    enum-told-2
-    enum-told-3
-    enum-told-4
-    enum-told-5
-    returns
-    returns-2
-    returns-3
-    returns-4
-    returns-5
-    returns-6)
+    tie.close (tie.spec enum-known-kind enum-told enum-told-2 enum-told-3 enum-told-4 enum-told-5 returns returns-2
+    returns-3 returns-4 returns-5 returns-6)

@@ -1,11 +1,9 @@
-use native.Mathlib.Omega.{arith}
+-- made by tools/proof.py from answers/items/lone_comma (answers 09a024055d7e, proof b1da3171de27): edit that file, not this one
+use borrow.Author.Needs.{needs}
 use mathlib.Core.Path.{sym, ap, _∙_}
 use Rattle.reader.specs.Syntax.{emptyByComma}
-use borrow.Author.Needs.{needs}
 use Rattle.reader.proofs.items.lone_comma.Statement.{statement}
 use Rattle.reader.proofs.items.lone_comma.Tie as tie
-use Rattle.reader.proofs.items.lone_comma.Reads as reads
-use Rattle.reader.proofs.items.lone_comma.Lts as lts
 
 enum-told : tie.Need-enum-told
 enum-told c = search needs

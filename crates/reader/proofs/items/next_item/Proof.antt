@@ -1,14 +1,10 @@
-use native.Mathlib.Omega.{arith}
+-- made by tools/proof.py from answers/items/next_item (answers 02e61dedb0cb, proof e3d956f232dc): edit that file, not this one
+use borrow.Author.Needs.{needs}
 use mathlib.Core.Path.{refl}
 use Rattle.reader.specs.declared.tree.Kind.the-variants.{Object, Array, Tuple}
 use Rattle.reader.proofs.ItemRun.{look-as, item-as, element-as, no-object}
-use borrow.Author.Needs.{needs}
 use Rattle.reader.proofs.items.next_item.Statement.{statement}
 use Rattle.reader.proofs.items.next_item.Tie as tie
-use Rattle.reader.proofs.items.next_item.Reads as reads
-use Rattle.reader.proofs.items.next_item.Lts as lts
-use Rattle.reader.proofs.items.next_element.Reads as next-element-reads
-use Rattle.reader.proofs.items.next_field.Reads as next-field-reads
 
 enum-told : tie.Need-enum-told
 enum-told c = search needs
@@ -39,14 +35,5 @@ returns-3 c = element-as (c .next-element2 .ensures)
 
 pub next-item-spec : {M : Type 1} → statement M
 next-item-spec =
-    tie.close
-    (tie.spec
-    enum-told
-    next-field-requires
-    enum-told-2
-    next-element-requires
-    enum-told-3
-    next-element-requires-2
-    returns
-    returns-2
-    returns-3)
+    tie.close (tie.spec enum-told next-field-requires enum-told-2 next-element-requires enum-told-3
+    next-element-requires-2 returns returns-2 returns-3)

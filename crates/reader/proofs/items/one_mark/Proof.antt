@@ -1,13 +1,9 @@
-use native.Mathlib.Omega.{arith}
+-- made by tools/proof.py from answers/items/one_mark (answers 26a2327b0008, proof a1cae4261806): edit that file, not this one
+use borrow.Author.Needs.{needs}
 use mathlib.Core.Path.{sym, ap, _∙_}
 use Rattle.reader.specs.Internal.Ahead.{onlyOf}
-use borrow.Author.Needs.{needs}
 use Rattle.reader.proofs.items.one_mark.Statement.{statement}
 use Rattle.reader.proofs.items.one_mark.Tie as tie
-use Rattle.reader.proofs.items.one_mark.Reads as reads
-use Rattle.reader.proofs.items.one_mark.Lts as lts
-use Rattle.reader.proofs.items.is_mark.Reads as is-mark-reads
-use Rattle.reader.proofs.items.token_from.Reads as token-from-reads
 
 token-from-requires : tie.Need-token-from-requires
 token-from-requires c κs = search needs
@@ -35,12 +31,5 @@ returns-3 c = sym (ap (onlyOf (c .before .before .before .before .before .args .
 
 pub one-mark-spec : {M : Type 1} → statement M
 one-mark-spec =
-    tie.close
-    (tie.spec
-    token-from-requires
-    enum-known-token
-    is-mark-requires
-    returns
-    enum-known-refusal
-    returns-2
+    tie.close (tie.spec token-from-requires enum-known-token is-mark-requires returns enum-known-refusal returns-2
     returns-3)

@@ -1,13 +1,9 @@
-use native.Mathlib.Omega.{arith}
+-- made by tools/proof.py from answers/items/opens_empty (answers ed24f034f0df, proof 712288fd7cbc): edit that file, not this one
+use borrow.Author.Needs.{needs}
 use mathlib.Core.Path.{sym, ap, _∙_}
 use borrow.Author.Tests.{eq-eqb, ne-eqb}
-use borrow.Author.Needs.{needs}
 use Rattle.reader.proofs.items.opens_empty.Statement.{statement}
 use Rattle.reader.proofs.items.opens_empty.Tie as tie
-use Rattle.reader.proofs.items.opens_empty.Reads as reads
-use Rattle.reader.proofs.items.opens_empty.Lts as lts
-use Rattle.reader.proofs.items.is_mark.Reads as is-mark-reads
-use Rattle.reader.proofs.items.lone_comma.Reads as lone-comma-reads
 
 is-mark-requires : tie.Need-is-mark-requires
 is-mark-requires c κs = search needs

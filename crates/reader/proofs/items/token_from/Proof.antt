@@ -1,12 +1,9 @@
-use native.Mathlib.Omega.{arith}
+-- made by tools/proof.py from answers/items/token_from (answers 59210be11f5b, proof f954029469d1): edit that file, not this one
+use borrow.Author.Needs.{needs}
 use mathlib.Core.Path.{sym, ap, _∙_}
 use Rattle.reader.specs.Internal.Ahead.{aheadOf}
-use borrow.Author.Needs.{needs}
 use Rattle.reader.proofs.items.token_from.Statement.{statement}
 use Rattle.reader.proofs.items.token_from.Tie as tie
-use Rattle.reader.proofs.items.token_from.Reads as reads
-use Rattle.reader.proofs.items.token_from.Lts as lts
-use Rattle.lexer.proofs.item.next_token.Reads as next-token-reads
 
 next-token-requires : tie.Need-next-token-requires
 next-token-requires c κs = search needs
@@ -34,12 +31,5 @@ returns-3 c = sym (ap aheadOf (sym (c .before .before .before .next-token .ensur
 
 pub token-from-spec : {M : Type 1} → statement M
 token-from-spec =
-    tie.close
-    (tie.spec
-    next-token-requires
-    enum-known-token
-    enum-known-place
-    enum-known-refusal
-    returns
-    returns-2
+    tie.close (tie.spec next-token-requires enum-known-token enum-known-place enum-known-refusal returns returns-2
     returns-3)

@@ -1,4 +1,4 @@
--- made by tools/proof.py from answers/keys/find_key (answers 54d4fc471a85, proof 06f85f1d8b99): edit that file, not this one
+-- made by tools/proof.py from answers/keys/find_key (answers 2843016c5504, proof e0cc4256886a): edit that file, not this one
 use borrow.Author.Needs.{needs}
 use native.Mathlib.Omega.{arith}
 use mathlib.Core.Path.{_≡_, refl, sym, _∙_}
@@ -7,7 +7,7 @@ use Rattle.reader.specs.Internal.Values.{KeyHere}
 use mathlib.Core.Option.{some}
 use Rattle.literals.specs.Content.{content}
 use Rattle.lexer.proofs.PartLaws.{part-content}
-use Rattle.reader.proofs.KeyWalk.{Walk, walk-start, walk-row, walk-key, walk-on, walk-hit, walk-end, same-told, keyed, key-part}
+use Rattle.reader.proofs.KeyWalk.{Walk, walk-start, walk-row, walk-key, walk-on, walk-hit, walk-end, same-by, keyed, key-part}
 use Rattle.reader.proofs.keys.find_key.Statement.{statement}
 use Rattle.reader.proofs.keys.find_key.Tie as tie
 
@@ -71,7 +71,7 @@ returns c =
     let the-word-of = c .before .before .before .before .word-of in
     let the-word-of2 = c .before .before .before .word-of2 in
     let K = walk-key _ _ _ _ _ _ _ _ _ (the-loop .inv .2) (omega arith) (the-word-of .ensures) (the-word-of2 .ensures) in
-    walk-hit _ _ _ _ _ _ _ _ (the-loop .inv .0 .key) _ _ _ (the-loop .inv .2) (omega arith) (the-word-of .ensures) (the-word-of2 .ensures) (K .0) (K .1) (sym (same-told _ _ _ _ _ _ _ _ _ (K .1) (the-loop .inv .1) (c .before .content-is .ensures)) ∙ c .if2 .taken)
+    walk-hit _ _ _ _ _ _ _ _ (the-loop .inv .0 .key) _ _ _ (the-loop .inv .2) (omega arith) (the-word-of .ensures) (the-word-of2 .ensures) (K .0) (K .1) (sym (same-by _ _ _ _ _ _ _ _ _ (K .1) (the-loop .inv .1) (c .before .content-is .ensures)) ∙ c .if2 .taken)
 
 word-of-requires-3 : tie.Need-word-of-requires-3 Inv-loop μ-loop
 word-of-requires-3 c κs = search needs
@@ -85,7 +85,7 @@ loop-again c =
     let the-word-of = c .before .before .before .before .before .word-of in
     let the-word-of2 = c .before .before .before .before .word-of2 in
     let K = walk-key _ _ _ _ _ _ _ _ _ (the-loop .inv .2) (omega arith) (the-word-of .ensures) (the-word-of2 .ensures) in
-    (the-loop .inv .0, the-loop .inv .1, walk-on _ _ _ _ _ _ _ _ _ _ (the-loop .inv .2) (omega arith) (the-word-of .ensures) (the-word-of2 .ensures) (c .word-of3 .ensures) (K .0) (K .1) (sym (same-told _ _ _ _ _ _ _ _ _ (K .1) (the-loop .inv .1) (c .before .before .content-is .ensures)) ∙ c .before .if2 .left))
+    (the-loop .inv .0, the-loop .inv .1, walk-on _ _ _ _ _ _ _ _ _ _ (the-loop .inv .2) (omega arith) (the-word-of .ensures) (the-word-of2 .ensures) (c .word-of3 .ensures) (K .0) (K .1) (sym (same-by _ _ _ _ _ _ _ _ _ (K .1) (the-loop .inv .1) (c .before .before .content-is .ensures)) ∙ c .before .if2 .left))
 
 returns-2 : tie.Need-returns-2 Inv-loop μ-loop
 returns-2 c =

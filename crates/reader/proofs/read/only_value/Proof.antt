@@ -1,12 +1,9 @@
-use native.Mathlib.Omega.{arith}
+-- made by tools/proof.py from answers/read/only_value (answers 9bb9181e5867, proof 9c8dc4c1dffa): edit that file, not this one
+use borrow.Author.Needs.{needs}
 use mathlib.Core.Path.{sym, ap, _∙_}
 use Rattle.reader.specs.Internal.Whole.{aloneOf}
-use borrow.Author.Needs.{needs}
 use Rattle.reader.proofs.read.only_value.Statement.{statement}
 use Rattle.reader.proofs.read.only_value.Tie as tie
-use Rattle.reader.proofs.read.only_value.Reads as reads
-use Rattle.reader.proofs.read.only_value.Lts as lts
-use Rattle.lexer.proofs.item.next_token.Reads as next-token-reads
 
 next-token-requires : tie.Need-next-token-requires
 next-token-requires c κs = search needs
@@ -22,24 +19,22 @@ enum-known-refusal c = search needs
 
 returns : tie.Need-returns
 unfolding aloneOf
-returns c = sym (ap (aloneOf (c .before .before .before .before .args .start) (c .before .before .before .before .args .stop) (c .before .before .before .before .args .nodes)) (sym (c .before .before .next-token .ensures) ∙ c .enum-told .given .1))
+returns c =
+    let the-args = c .before .before .before .before .args in
+    sym (ap (aloneOf (the-args .start) (the-args .stop) (the-args .nodes)) (sym (c .before .before .next-token .ensures) ∙ c .enum-told .given .1))
 
 returns-2 : tie.Need-returns-2
 unfolding aloneOf
-returns-2 c = sym (ap (aloneOf (c .before .before .before .before .before .args .start) (c .before .before .before .before .before .args .stop) (c .before .before .before .before .before .args .nodes)) (sym (c .before .before .before .next-token .ensures) ∙ c .before .token .given .1))
+returns-2 c =
+    let the-args = c .before .before .before .before .before .args in
+    sym (ap (aloneOf (the-args .start) (the-args .stop) (the-args .nodes)) (sym (c .before .before .before .next-token .ensures) ∙ c .before .token .given .1))
 
 returns-3 : tie.Need-returns-3
 unfolding aloneOf
-returns-3 c = sym (ap (aloneOf (c .before .before .before .before .before .args .start) (c .before .before .before .before .before .args .stop) (c .before .before .before .before .before .args .nodes)) (sym (c .before .before .before .next-token .ensures) ∙ c .before .refusal .given .1))
+returns-3 c =
+    let the-args = c .before .before .before .before .before .args in
+    sym (ap (aloneOf (the-args .start) (the-args .stop) (the-args .nodes)) (sym (c .before .before .before .next-token .ensures) ∙ c .before .refusal .given .1))
 
 pub only-value-spec : {M : Type 1} → statement M
 only-value-spec =
-    tie.close
-    (tie.spec
-    next-token-requires
-    enum-told
-    enum-known-token
-    enum-known-refusal
-    returns
-    returns-2
-    returns-3)
+    tie.close (tie.spec next-token-requires enum-told enum-known-token enum-known-refusal returns returns-2 returns-3)

@@ -1,14 +1,10 @@
-use native.Mathlib.Omega.{arith}
+-- made by tools/proof.py from answers/read/read (answers c6b75bc964f7, proof b61e40e74622): edit that file, not this one
+use borrow.Author.Needs.{needs}
 use mathlib.Core.Path.{subst}
 use lib.ListN.{length}
 use Rattle.text.specs.declared.switches.Switches.{Switches}
-use borrow.Author.Needs.{needs}
 use Rattle.reader.proofs.read.read.Statement.{statement}
 use Rattle.reader.proofs.read.read.Tie as tie
-use Rattle.reader.proofs.read.read.Reads as reads
-use Rattle.reader.proofs.read.read.Lts as lts
-use Rattle.reader.proofs.read.read_edition.Reads as read-edition-reads
-use Rattle.text.proofs.switches.present.Reads as present-reads
 
 present-requires : tie.Need-present-requires
 present-requires c κs = search needs
@@ -23,4 +19,5 @@ returns : tie.Need-returns
 returns c = rw (c .before .before .before .before .present .ensures) at (c .before .before .read-edition .ensures)
 
 pub read-spec : {M : Type 1} → statement M
-read-spec = tie.close (tie.spec present-requires read-edition-requires same-length returns)
+read-spec =
+    tie.close (tie.spec present-requires read-edition-requires same-length returns)

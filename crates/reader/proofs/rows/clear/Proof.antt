@@ -1,3 +1,4 @@
+-- made by tools/proof.py from answers/rows/clear (answers 282b9dc960c3, proof 06879f8aaf12): edit that file, not this one
 use borrow.Author.Needs.{needs}
 use native.Mathlib.Omega.{arith}
 use borrow.Author.Fill.{fill-none, fill-more}
@@ -8,8 +9,6 @@ use native.Mathlib.Nat.{le-refl}
 use lib.ListN.{length, set, replicate, drop, length-set, drop-of-length-le}
 use Rattle.reader.proofs.rows.clear.Statement.{statement}
 use Rattle.reader.proofs.rows.clear.Tie as tie
-use Rattle.reader.proofs.rows.clear.Reads as reads
-use Rattle.reader.proofs.rows.clear.Lts as lts
 
 abbrev Inv-loop : tie.InvT-loop
 Inv-loop table₀ i₀ table i = (i ≤ length table₀) × (length table ≡ length table₀) × (table ≡ replicate i 0 ++ drop i table₀)
@@ -39,19 +38,11 @@ same-length : tie.Need-same-length Inv-loop μ-loop
 same-length c = c .before .loop .inv .1
 
 returns : tie.Need-returns Inv-loop μ-loop
-returns c = let e : c .before .loop .i ≡ length (c .before .before .args .table .now) = omega arith in c .before .loop .inv .2 ∙ ap (λ (k : ℕ). replicate k 0 ++ drop k (c .before .before .args .table .now)) e ∙ ap (λ (l : List ℕ). replicate (length (c .before .before .args .table .now)) 0 ++ l) (drop-of-length-le (c .before .before .args .table .now) (le-refl _)) ∙ append-nil _
+returns c =
+    let the-args = c .before .before .args in
+    let e : c .before .loop .i ≡ length (the-args .table .now) = omega arith in c .before .loop .inv .2 ∙ ap (λ (k : ℕ). replicate k 0 ++ drop k (the-args .table .now)) e ∙ ap (λ (l : List ℕ). replicate (length (the-args .table .now)) 0 ++ l) (drop-of-length-le (the-args .table .now) (le-refl _)) ∙ append-nil _
 
 pub clear-spec : {M : Type 1} → statement M
 clear-spec =
-    tie.close
-    (tie.spec
-    Inv-loop
-    μ-loop
-    loop-holds
-    mul-table
-    slice-write-table
-    add-i
-    loop-less
-    loop-again
-    same-length
+    tie.close (tie.spec Inv-loop μ-loop loop-holds mul-table slice-write-table add-i loop-less loop-again same-length
     returns)

@@ -1,11 +1,9 @@
-use native.Mathlib.Omega.{arith}
+-- made by tools/proof.py from answers/rows/kind_word (answers 95b0958b7c00, proof 37911df27abe): edit that file, not this one
+use borrow.Author.Needs.{needs}
 use mathlib.Core.Path.{sym, ap}
 use Rattle.reader.specs.Tree.{kindNumber}
-use borrow.Author.Needs.{needs}
 use Rattle.reader.proofs.rows.kind_word.Statement.{statement}
 use Rattle.reader.proofs.rows.kind_word.Tie as tie
-use Rattle.reader.proofs.rows.kind_word.Reads as reads
-use Rattle.reader.proofs.rows.kind_word.Lts as lts
 
 enum-told : tie.Need-enum-told
 enum-told c = search needs
@@ -29,4 +27,5 @@ unfolding kindNumber
 returns-3 c = sym (ap kindNumber (c .enum-told3 .given .1))
 
 pub kind-word-spec : {M : Type 1} → statement M
-kind-word-spec = tie.close (tie.spec enum-told enum-told-2 enum-told-3 returns returns-2 returns-3)
+kind-word-spec =
+    tie.close (tie.spec enum-told enum-told-2 enum-told-3 returns returns-2 returns-3)

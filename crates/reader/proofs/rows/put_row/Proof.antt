@@ -1,13 +1,12 @@
+-- made by tools/proof.py from answers/rows/put_row (answers 92f31709a54e, proof a97feec898b9): edit that file, not this one
+use borrow.Author.Needs.{needs}
 use native.Mathlib.Omega.{arith}
 use mathlib.Core.Path.{_≡_}
 use Prim.Native.Nat.{ℕ, suc, _+_}
 use native.Mathlib.Numerals.{towards-suc}
 use lib.ListN.{length-set}
-use borrow.Author.Needs.{needs}
 use Rattle.reader.proofs.rows.put_row.Statement.{statement}
 use Rattle.reader.proofs.rows.put_row.Tie as tie
-use Rattle.reader.proofs.rows.put_row.Reads as reads
-use Rattle.reader.proofs.rows.put_row.Lts as lts
 
 nine : (n : ℕ) → n + 9 ≡ suc (n + 8)
 nine n = omega arith
@@ -143,46 +142,9 @@ returns c = simp (nine, ten, eleven, towards-suc)
 
 pub put-row-spec : {M : Type 1} → statement M
 put-row-spec =
-    tie.close
-    (tie.spec
-    mul-row
-    add-table
-    mul-table
-    slice-write-table
-    add-table-2
-    mul-table-2
-    slice-write-table-2
-    add-table-3
-    mul-table-3
-    slice-write-table-3
-    cast-table
-    add-table-4
-    mul-table-4
-    slice-write-table-4
-    add-table-5
-    mul-table-5
-    slice-write-table-5
-    add-table-6
-    mul-table-6
-    slice-write-table-6
-    add-table-7
-    mul-table-7
-    slice-write-table-7
-    add-table-8
-    mul-table-8
-    slice-write-table-8
-    cast-table-2
-    add-table-9
-    mul-table-9
-    slice-write-table-9
-    add-table-10
-    mul-table-10
-    slice-write-table-10
-    add-table-11
-    mul-table-11
-    slice-write-table-11
-    add-table-12
-    mul-table-12
-    slice-write-table-12
-    same-length
-    returns)
+    tie.close (tie.spec mul-row add-table mul-table slice-write-table add-table-2 mul-table-2 slice-write-table-2
+    add-table-3 mul-table-3 slice-write-table-3 cast-table add-table-4 mul-table-4 slice-write-table-4 add-table-5
+    mul-table-5 slice-write-table-5 add-table-6 mul-table-6 slice-write-table-6 add-table-7 mul-table-7
+    slice-write-table-7 add-table-8 mul-table-8 slice-write-table-8 cast-table-2 add-table-9 mul-table-9
+    slice-write-table-9 add-table-10 mul-table-10 slice-write-table-10 add-table-11 mul-table-11 slice-write-table-11
+    add-table-12 mul-table-12 slice-write-table-12 same-length returns)

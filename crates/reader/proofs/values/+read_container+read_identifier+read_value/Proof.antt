@@ -1,3 +1,4 @@
+-- made by tools/proof.py from answers/values/+read_container+read_identifier+read_value (answers 5f3067e53e32, proof 2d59583056d4): edit that file, not this one
 use borrow.Author.Needs.{needs}
 use native.Mathlib.Omega.{arith}
 use mathlib.Core.Path.{_≡_, refl, sym, _∙_}
@@ -11,9 +12,9 @@ use Rattle.reader.specs.Tree.{Forest, nil}
 use Rattle.reader.specs.Syntax.{container}
 use Rattle.reader.specs.Internal.Values.{labelOf, opened}
 use Rattle.reader.proofs.StepRun.{past-token}
-use Rattle.reader.proofs.ItemRun.{told-at, told-not, next-is}
-use Rattle.reader.proofs.BodyRun.{Within, took, stops, due-as, begins-as, value-is, last-is, refused-is, fresh-took, fresh-stops, fresh-ready, body-look, body-value, body-more, body-over, body-last, body-wrong, body-stop, body-off, body-took, node-left, open-deep, open-full, body-start}
-use Rattle.reader.proofs.ValueRun.{begun-as, leaf-read, nothing-stops, named-ready, name-twice, name-full, name-not, name-stop, name-shut-not, name-took}
+use Rattle.reader.proofs.ItemRun.{mark-at, mark-refused, next-is}
+use Rattle.reader.proofs.BodyRun.{Within, read-is, value-refused, due-as, begins-as, value-is, last-is, item-refused, fresh-read, fresh-refused, fresh-ready, body-look, body-value, body-more, body-over, body-last, body-item-refused, body-child-refused, body-after-refused, body-read, node-left, open-deep, open-full, body-start}
+use Rattle.reader.proofs.ValueRun.{begun-as, leaf-read, nothing-refused, named-ready, name-twice, name-full, name-not, name-refused, name-shut-not, name-read}
 use Prim.Native.Nat.{ℕ, _<_}
 use borrow.Fn.Kinds.{In}
 use borrow.Fn.PlainCycle.{Measures, is, falls, and}
@@ -108,19 +109,30 @@ abbrev read-container-μ-loop : read-container-lts.MeasureT-loop
 read-container-μ-loop rules text table₀ due kind place spot first from₀ children₀ table from children = length text - from
 
 read-container-returns : (t : ℕ) → read-container-lts.Need-returns (read-container-calls t) (read-container-at t) read-container.Post read-container-Inv-loop read-container-μ-loop
-read-container-returns t c = record { is = open-deep _ _ _ _ _ (c .before .before .before .before .before .before .args .due .fresh) (c .before .before .before .before .before .before .args .due .any) _ _ _ (c .before .before .before .before .before .before .args .kind) (c .if1 .taken) _ }
+read-container-returns t c =
+    let the-args = c .before .before .before .before .before .before .args in
+    record { is = open-deep _ _ _ _ _ (the-args .due .fresh) (the-args .due .any) _ _ _ (the-args .kind) (c .if1 .taken) _ }
 
 read-container-is-full-requires : (t : ℕ) → read-container-lts.Need-is-full-requires (read-container-calls t) (read-container-at t) read-container.Post read-container-Inv-loop read-container-μ-loop
 read-container-is-full-requires t c κs = search needs
 
 read-container-returns-2 : (t : ℕ) → read-container-lts.Need-returns-2 (read-container-calls t) (read-container-at t) read-container.Post read-container-Inv-loop read-container-μ-loop
-read-container-returns-2 t c = record { is = open-full _ _ _ _ _ (c .before .before .before .before .before .before .before .before .args .due .fresh) (c .before .before .before .before .before .before .before .before .args .due .any) _ _ _ (c .before .before .before .before .before .before .before .before .args .kind) (c .before .before .if1 .left) (sym (c .before .is-full .ensures) ∙ c .if2 .taken) _ }
+read-container-returns-2 t c =
+    let the-args = c .before .before .before .before .before .before .before .before .args in
+    record { is = open-full _ _ _ _ _ (the-args .due .fresh) (the-args .due .any) _ _ _ (the-args .kind) (c .before .before .if1 .left) (sym (c .before .is-full .ensures) ∙ c .if2 .taken) _ }
 
 read-container-add-first : (t : ℕ) → read-container-lts.Need-add-first (read-container-calls t) (read-container-at t) read-container.Post read-container-Inv-loop read-container-μ-loop
-read-container-add-first t c = let w = node-left _ (c .before .before .before .before .before .before .before .before .before .args .due .fresh) (c .before .before .before .before .before .before .before .before .before .args .due .spot .node) (sym (c .before .before .is-full .ensures) ∙ c .before .if2 .left) (c .before .before .before .before .before .before .before .before .before .pre .1 .0 .counted) in omega (arith, c .before .before .before .before .before .before .before .before .before .pre .1 .0 .table .small)
+read-container-add-first t c =
+    let the-args = c .before .before .before .before .before .before .before .before .before .args in
+    let the-pre = c .before .before .before .before .before .before .before .before .before .pre in
+    let w = node-left _ (the-args .due .fresh) (the-args .due .spot .node) (sym (c .before .before .is-full .ensures) ∙ c .before .if2 .left) (the-pre .1 .0 .counted) in omega (arith, the-pre .1 .0 .table .small)
 
 read-container-loop-holds : (t : ℕ) → read-container-lts.Need-loop-holds (read-container-calls t) (read-container-at t) read-container.Post read-container-Inv-loop read-container-μ-loop
-read-container-loop-holds t c = (nil, [], refl, body-start (c .before .before .before .before .before .before .before .before .before .args .rules .sw) (c .before .before .before .before .before .before .before .before .before .args .rules .limits) (c .before .before .before .before .before .before .before .before .before .args .text .now) (c .before .before .before .before .before .before .before .before .before .args .bracket .start) (c .before .before .before .before .before .before .before .before .before .args .bracket .stop) (c .before .before .before .before .before .before .before .before .before .args .due .fresh) (c .before .before .before .before .before .before .before .before .before .args .due .any) (labelOf (c .before .before .before .before .before .before .before .before .before .args .due .label)) (c .before .before .before .before .before .before .before .before .before .args .due .spot .node) (c .before .before .before .before .before .before .before .before .before .args .due .spot .depth) (c .before .before .before .before .before .before .before .before .before .args .kind) _ (c .before .before .before .if1 .left) (sym (c .before .before .is-full .ensures) ∙ c .before .if2 .left) (node-left _ (c .before .before .before .before .before .before .before .before .before .args .due .fresh) (c .before .before .before .before .before .before .before .before .before .args .due .spot .node) (sym (c .before .before .is-full .ensures) ∙ c .before .if2 .left) (c .before .before .before .before .before .before .before .before .before .pre .1 .0 .counted)) (c .before .before .before .before .before .before .before .before .before .pre .1 .1 .ordered) (c .before .before .before .before .before .before .before .before .before .pre .1 .1 .inside) (c .before .before .before .before .before .before .before .before .before .pre .1 .0 .table .room))
+read-container-loop-holds t c =
+    let the-args = c .before .before .before .before .before .before .before .before .before .args in
+    let the-is-full = c .before .before .is-full in
+    let the-pre = c .before .before .before .before .before .before .before .before .before .pre in
+    (nil, [], refl, body-start (the-args .rules .sw) (the-args .rules .limits) (the-args .text .now) (the-args .bracket .start) (the-args .bracket .stop) (the-args .due .fresh) (the-args .due .any) (labelOf (the-args .due .label)) (the-args .due .spot .node) (the-args .due .spot .depth) (the-args .kind) _ (c .before .before .before .if1 .left) (sym (the-is-full .ensures) ∙ c .before .if2 .left) (node-left _ (the-args .due .fresh) (the-args .due .spot .node) (sym (the-is-full .ensures) ∙ c .before .if2 .left) (the-pre .1 .0 .counted)) (the-pre .1 .1 .ordered) (the-pre .1 .1 .inside) (the-pre .1 .0 .table .room))
 
 read-container-next-item-requires : (t : ℕ) → read-container-lts.Need-next-item-requires (read-container-calls t) (read-container-at t) read-container.Post read-container-Inv-loop read-container-μ-loop
 read-container-next-item-requires t c κs = body-look (c .before .loop .inv .2) (c .before .before .before .before .before .before .before .before .before .before .before .pre .1 .1 .short) (c .before .loop .inv .3)
@@ -132,20 +144,28 @@ read-container-same-length : (t : ℕ) → read-container-lts.Need-same-length (
 read-container-same-length t c = c .before .before .before .before .before .loop .inv .3 .long
 
 read-container-returns-3 : (t : ℕ) → read-container-lts.Need-returns-3 (read-container-calls t) (read-container-at t) read-container.Post read-container-Inv-loop read-container-μ-loop
-read-container-returns-3 t c = record { is = body-wrong (c .before .before .before .before .before .loop .inv .3) (refused-is (c .before .before .before .before .before .loop .inv .2) (c .before .refusal .given .1) (c .before .before .before .next-item .ensures)) }
+read-container-returns-3 t c =
+    let the-loop = c .before .before .before .before .before .loop in
+    record { is = body-item-refused (the-loop .inv .3) (item-refused (the-loop .inv .2) (c .before .refusal .given .1) (c .before .before .before .next-item .ensures)) }
 
 read-container-enum-known-end : (t : ℕ) → read-container-lts.Need-enum-known-end (read-container-calls t) (read-container-at t) read-container.Post read-container-Inv-loop read-container-μ-loop
 read-container-enum-known-end t c = search needs
 
 read-container-put-branch-requires : (t : ℕ) → read-container-lts.Need-put-branch-requires (read-container-calls t) (read-container-at t) read-container.Post read-container-Inv-loop read-container-μ-loop
-read-container-put-branch-requires t c κs = let L = last-is (c .before .before .before .before .before .before .loop .inv .2) (c .before .before .end .given .1) (c .before .before .before .before .next-item .ensures) in
-    (record { row = omega (arith, c .before .before .before .before .before .before .loop .inv .3 .grew, c .before .before .before .before .before .before .loop .inv .3 .below, c .before .before .before .before .before .before .loop .inv .3 .room, c .before .before .before .before .before .before .loop .inv .3 .long); stop-low = omega (arith, L .inside, c .before .before .before .before .before .before .before .before .before .before .before .before .before .before .before .before .pre .1 .1 .short); next-low = omega (arith, c .before .before .before .before .before .before .loop .inv .3 .below, c .before .before .before .before .before .before .before .before .before .before .before .before .before .before .before .before .pre .1 .0 .table .small) }, omega (arith, c .before .before .before .before .before .before .loop .inv .3 .few))
+read-container-put-branch-requires t c κs =
+    let the-loop = c .before .before .before .before .before .before .loop in
+    let the-pre = c .before .before .before .before .before .before .before .before .before .before .before .before .before .before .before .before .pre in
+    let L = last-is (the-loop .inv .2) (c .before .before .end .given .1) (c .before .before .before .before .next-item .ensures) in
+    (record { row = omega (arith, the-loop .inv .3 .grew, the-loop .inv .3 .below, the-loop .inv .3 .room, the-loop .inv .3 .long); stop-low = omega (arith, L .inside, the-pre .1 .1 .short); next-low = omega (arith, the-loop .inv .3 .below, the-pre .1 .0 .table .small) }, omega (arith, the-loop .inv .3 .few))
 
 read-container-same-length-2 : (t : ℕ) → read-container-lts.Need-same-length-2 (read-container-calls t) (read-container-at t) read-container.Post read-container-Inv-loop read-container-μ-loop
 read-container-same-length-2 t c = c .before .before .put-branch .kept .0 ∙ c .before .before .before .before .before .before .before .before .before .loop .inv .3 .long
 
 read-container-returns-4 : (t : ℕ) → read-container-lts.Need-returns-4 (read-container-calls t) (read-container-at t) read-container.Post read-container-Inv-loop read-container-μ-loop
-read-container-returns-4 t c = body-took (c .before .before .before .before .before .before .before .before .before .before .before .before .before .before .before .before .before .before .before .pre .1 .0 .label) (body-last (c .before .before .before .before .before .before .before .before .before .loop .inv .3) (last-is (c .before .before .before .before .before .before .before .before .before .loop .inv .2) (c .before .before .before .before .before .end .given .1) (c .before .before .before .before .before .before .before .next-item .ensures))) (c .before .before .put-branch .ensures .0) (c .before .before .put-branch .ensures .1)
+read-container-returns-4 t c =
+    let the-loop = c .before .before .before .before .before .before .before .before .before .loop in
+    let the-put-branch = c .before .before .put-branch in
+    body-read (c .before .before .before .before .before .before .before .before .before .before .before .before .before .before .before .before .before .before .before .pre .1 .0 .label) (body-last (the-loop .inv .3) (last-is (the-loop .inv .2) (c .before .before .before .before .before .end .given .1) (c .before .before .before .before .before .before .before .next-item .ensures))) (the-put-branch .ensures .0) (the-put-branch .ensures .1)
 
 read-container-enum-known-token : (t : ℕ) → read-container-lts.Need-enum-known-token (read-container-calls t) (read-container-at t) read-container.Post read-container-Inv-loop read-container-μ-loop
 read-container-enum-known-token t c = search needs
@@ -155,12 +175,16 @@ read-container-child-due-requires t c κs = let w = node-left _ (c .before .befo
     ((omega (arith, c .before .before .before .before .before .before .before .before .before .if1 .left), omega (arith, c .before .before .before .before .before .before .before .before .before .before .before .before .before .before .before .pre .1 .0 .table .small)), (omega (arith, I .token .ordered, I .token .inside, c .before .before .before .before .before .before .before .before .before .before .before .before .before .before .before .pre .1 .1 .short), record { start-low = I .short .0; stop-low = I .short .1 }))
 
 read-container-read-value-requires : (t : ℕ) → read-container-lts.Need-read-value-requires (read-container-calls t) (read-container-at t) read-container.Post read-container-Inv-loop read-container-μ-loop
-read-container-read-value-requires t c κs = let I = value-is (c .before .before .before .before .before .before .before .loop .inv .2) (c .before .before .before .token .given .1) (c .before .before .before .before .before .next-item .ensures) in
-    let g : 2 * (length (c .before .before .before .before .before .before .before .before .before .before .before .before .before .before .before .before .before .args .text .now) - c .before .before .before .token .given .0 .0 .span .start) + 1 < t = omega (arith, c .before .before .before .before .before .before .before .before .before .before .before .before .before .before .before .before .before .pre .0, I .ahead, I .token .ordered, I .token .inside, c .before .before .before .before .before .before .before .loop .inv .3 .ahead) in (
+read-container-read-value-requires t c κs =
+    let the-loop = c .before .before .before .before .before .before .before .loop in
+    let the-token = c .before .before .before .token in
+    let the-pre = c .before .before .before .before .before .before .before .before .before .before .before .before .before .before .before .before .before .pre in
+    let I = value-is (the-loop .inv .2) (the-token .given .1) (c .before .before .before .before .before .next-item .ensures) in
+    let g : 2 * (length (c .before .before .before .before .before .before .before .before .before .before .before .before .before .before .before .before .before .args .text .now) - the-token .given .0 .0 .span .start) + 1 < t = omega (arith, the-pre .0, I .ahead, I .token .ordered, I .token .inside, the-loop .inv .3 .ahead) in (
       g,
       (
-        fresh-ready (c .before .child-due .ensures) (record { room = omega (arith, c .before .before .before .before .before .before .before .loop .inv .3 .room, c .before .before .before .before .before .before .before .loop .inv .3 .long); small = c .before .before .before .before .before .before .before .before .before .before .before .before .before .before .before .before .before .pre .1 .0 .table .small }) (c .before .before .before .before .before .before .before .loop .inv .3 .below) (I .apart),
-        (I .token, c .before .before .before .before .before .before .before .before .before .before .before .before .before .before .before .before .before .pre .1 .1 .short),
+        fresh-ready (c .before .child-due .ensures) (record { room = omega (arith, the-loop .inv .3 .room, the-loop .inv .3 .long); small = the-pre .1 .0 .table .small }) (the-loop .inv .3 .below) (I .apart),
+        (I .token, the-pre .1 .1 .short),
       ),
     )
 
@@ -171,7 +195,9 @@ read-container-same-length-3 : (t : ℕ) → read-container-lts.Need-same-length
 read-container-same-length-3 t c = c .before .before .before .before .before .read-value .kept .1 .1 .0 ∙ c .before .before .before .before .before .before .before .before .before .before .before .before .before .loop .inv .3 .long
 
 read-container-returns-5 : (t : ℕ) → read-container-lts.Need-returns-5 (read-container-calls t) (read-container-at t) read-container.Post read-container-Inv-loop read-container-μ-loop
-read-container-returns-5 t c = record { is = body-stop (c .before .before .before .before .before .before .before .before .before .before .before .before .before .loop .inv .3) (value-is (c .before .before .before .before .before .before .before .before .before .before .before .before .before .loop .inv .2) (c .before .before .before .before .before .before .before .before .before .token .given .1) (c .before .before .before .before .before .before .before .before .before .before .before .next-item .ensures)) (fresh-stops (c .before .before .before .before .before .before .before .child-due .ensures) (c .before .refusal2 .given .1) (c .before .before .before .before .before .read-value .ensures)) }
+read-container-returns-5 t c =
+    let the-loop = c .before .before .before .before .before .before .before .before .before .before .before .before .before .loop in
+    record { is = body-child-refused (the-loop .inv .3) (value-is (the-loop .inv .2) (c .before .before .before .before .before .before .before .before .before .token .given .1) (c .before .before .before .before .before .before .before .before .before .before .before .next-item .ensures)) (fresh-refused (c .before .before .before .before .before .before .before .child-due .ensures) (c .before .refusal2 .given .1) (c .before .before .before .before .before .read-value .ensures)) }
 
 read-container-enum-known-stop : (t : ℕ) → read-container-lts.Need-enum-known-stop (read-container-calls t) (read-container-at t) read-container.Post read-container-Inv-loop read-container-μ-loop
 read-container-enum-known-stop t c = search needs
@@ -189,38 +215,57 @@ read-container-same-length-4 : (t : ℕ) → read-container-lts.Need-same-length
 read-container-same-length-4 t c = c .before .before .before .before .before .before .before .before .before .before .read-value .kept .1 .1 .0 ∙ c .before .before .before .before .before .before .before .before .before .before .before .before .before .before .before .before .before .before .loop .inv .3 .long
 
 read-container-returns-6 : (t : ℕ) → read-container-lts.Need-returns-6 (read-container-calls t) (read-container-at t) read-container.Post read-container-Inv-loop read-container-μ-loop
-read-container-returns-6 t c = record { is = body-off (body-value (c .before .before .before .before .before .before .before .before .before .before .before .before .before .before .before .before .before .before .loop .inv .3) (value-is (c .before .before .before .before .before .before .before .before .before .before .before .before .before .before .before .before .before .before .loop .inv .2) (c .before .before .before .before .before .before .before .before .before .before .before .before .before .before .token .given .1) (c .before .before .before .before .before .before .before .before .before .before .before .before .before .before .before .before .next-item .ensures)) (fresh-took (c .before .before .before .before .before .before .before .before .before .before .before .before .child-due .ensures) (c .before .before .before .before .before .before .stop .given .1) (c .before .before .before .before .before .before .before .before .before .before .read-value .ensures)) (c .before .before .before .before .before .before .before .before .before .before .read-value .kept .1 .1 .0)) (next-is (c .before .before .before .before .before .before .before .before .before .before .before .before .before .before .before .before .before .before .before .before .before .before .before .before .before .before .before .before .args .rules .sw) (c .before .before .before .before .before .before .before .before .before .before .before .before .before .before .before .before .before .before .before .before .before .before .before .before .before .before .before .before .args .text .now) (c .before .before .before .before .before .before .before .before .before .before .before .before .before .before .before .before .before .before .before .before .before .before .before .before .before .before .before .before .args .kind) _ ((fresh-took (c .before .before .before .before .before .before .before .before .before .before .before .before .child-due .ensures) (c .before .before .before .before .before .before .stop .given .1) (c .before .before .before .before .before .before .before .before .before .before .read-value .ensures)) .inside) (c .before .before .before .after-item .ensures) (X.Refused _) (c .before .refusal3 .given .1)) }
+read-container-returns-6 t c =
+    let the-loop = c .before .before .before .before .before .before .before .before .before .before .before .before .before .before .before .before .before .before .loop in
+    let the-child-due = c .before .before .before .before .before .before .before .before .before .before .before .before .child-due in
+    let the-stop = c .before .before .before .before .before .before .stop in
+    let the-read-value = c .before .before .before .before .before .before .before .before .before .before .read-value in
+    let the-args = c .before .before .before .before .before .before .before .before .before .before .before .before .before .before .before .before .before .before .before .before .before .before .before .before .before .before .before .before .args in
+    record { is = body-after-refused (body-value (the-loop .inv .3) (value-is (the-loop .inv .2) (c .before .before .before .before .before .before .before .before .before .before .before .before .before .before .token .given .1) (c .before .before .before .before .before .before .before .before .before .before .before .before .before .before .before .before .next-item .ensures)) (fresh-read (the-child-due .ensures) (the-stop .given .1) (the-read-value .ensures)) (the-read-value .kept .1 .1 .0)) (next-is (the-args .rules .sw) (the-args .text .now) (the-args .kind) _ ((fresh-read (the-child-due .ensures) (the-stop .given .1) (the-read-value .ensures)) .inside) (c .before .before .before .after-item .ensures) (X.Refused _) (c .before .refusal3 .given .1)) }
 
 read-container-enum-known-end-2 : (t : ℕ) → read-container-lts.Need-enum-known-end-2 (read-container-calls t) (read-container-at t) read-container.Post read-container-Inv-loop read-container-μ-loop
 read-container-enum-known-end-2 t c = search needs
 
 read-container-put-branch-requires-2 : (t : ℕ) → read-container-lts.Need-put-branch-requires-2 (read-container-calls t) (read-container-at t) read-container.Post read-container-Inv-loop read-container-μ-loop
-read-container-put-branch-requires-2 t c κs = let B = body-value (c .before .before .before .before .before .before .before .before .before .before .before .before .before .before .before .before .before .before .before .loop .inv .3) (value-is (c .before .before .before .before .before .before .before .before .before .before .before .before .before .before .before .before .before .before .before .loop .inv .2) (c .before .before .before .before .before .before .before .before .before .before .before .before .before .before .before .token .given .1) (c .before .before .before .before .before .before .before .before .before .before .before .before .before .before .before .before .before .next-item .ensures)) (fresh-took (c .before .before .before .before .before .before .before .before .before .before .before .before .before .child-due .ensures) (c .before .before .before .before .before .before .before .stop .given .1) (c .before .before .before .before .before .before .before .before .before .before .before .read-value .ensures)) (c .before .before .before .before .before .before .before .before .before .before .before .read-value .kept .1 .1 .0) in let C = next-is (c .before .before .before .before .before .before .before .before .before .before .before .before .before .before .before .before .before .before .before .before .before .before .before .before .before .before .before .before .before .args .rules .sw) (c .before .before .before .before .before .before .before .before .before .before .before .before .before .before .before .before .before .before .before .before .before .before .before .before .before .before .before .before .before .args .text .now) (c .before .before .before .before .before .before .before .before .before .before .before .before .before .before .before .before .before .before .before .before .before .before .before .before .before .before .before .before .before .args .kind) _ ((fresh-took (c .before .before .before .before .before .before .before .before .before .before .before .before .before .child-due .ensures) (c .before .before .before .before .before .before .before .stop .given .1) (c .before .before .before .before .before .before .before .before .before .before .before .read-value .ensures)) .inside) (c .before .before .before .before .after-item .ensures) (X.Over _) (c .before .before .end2 .given .1) in
+read-container-put-branch-requires-2 t c κs = let B = body-value (c .before .before .before .before .before .before .before .before .before .before .before .before .before .before .before .before .before .before .before .loop .inv .3) (value-is (c .before .before .before .before .before .before .before .before .before .before .before .before .before .before .before .before .before .before .before .loop .inv .2) (c .before .before .before .before .before .before .before .before .before .before .before .before .before .before .before .token .given .1) (c .before .before .before .before .before .before .before .before .before .before .before .before .before .before .before .before .before .next-item .ensures)) (fresh-read (c .before .before .before .before .before .before .before .before .before .before .before .before .before .child-due .ensures) (c .before .before .before .before .before .before .before .stop .given .1) (c .before .before .before .before .before .before .before .before .before .before .before .read-value .ensures)) (c .before .before .before .before .before .before .before .before .before .before .before .read-value .kept .1 .1 .0) in let C = next-is (c .before .before .before .before .before .before .before .before .before .before .before .before .before .before .before .before .before .before .before .before .before .before .before .before .before .before .before .before .before .args .rules .sw) (c .before .before .before .before .before .before .before .before .before .before .before .before .before .before .before .before .before .before .before .before .before .before .before .before .before .before .before .before .before .args .text .now) (c .before .before .before .before .before .before .before .before .before .before .before .before .before .before .before .before .before .before .before .before .before .before .before .before .before .before .before .before .before .args .kind) _ ((fresh-read (c .before .before .before .before .before .before .before .before .before .before .before .before .before .child-due .ensures) (c .before .before .before .before .before .before .before .stop .given .1) (c .before .before .before .before .before .before .before .before .before .before .before .read-value .ensures)) .inside) (c .before .before .before .before .after-item .ensures) (X.Over _) (c .before .before .end2 .given .1) in
     (record { row = omega (arith, B .grew, B .below, B .room, B .long); stop-low = omega (arith, C .within, c .before .before .before .before .before .before .before .before .before .before .before .before .before .before .before .before .before .before .before .before .before .before .before .before .before .before .before .before .before .pre .1 .1 .short); next-low = omega (arith, B .below, c .before .before .before .before .before .before .before .before .before .before .before .before .before .before .before .before .before .before .before .before .before .before .before .before .before .before .before .before .before .pre .1 .0 .table .small) }, omega (arith, B .few))
 
 read-container-same-length-5 : (t : ℕ) → read-container-lts.Need-same-length-5 (read-container-calls t) (read-container-at t) read-container.Post read-container-Inv-loop read-container-μ-loop
 read-container-same-length-5 t c = c .before .before .put-branch2 .kept .0 ∙ c .before .before .before .before .before .before .before .before .before .before .before .before .before .before .read-value .kept .1 .1 .0 ∙ c .before .before .before .before .before .before .before .before .before .before .before .before .before .before .before .before .before .before .before .before .before .before .loop .inv .3 .long
 
 read-container-returns-7 : (t : ℕ) → read-container-lts.Need-returns-7 (read-container-calls t) (read-container-at t) read-container.Post read-container-Inv-loop read-container-μ-loop
-read-container-returns-7 t c = body-took (c .before .before .before .before .before .before .before .before .before .before .before .before .before .before .before .before .before .before .before .before .before .before .before .before .before .before .before .before .before .before .before .before .pre .1 .0 .label) (body-over (body-value (c .before .before .before .before .before .before .before .before .before .before .before .before .before .before .before .before .before .before .before .before .before .before .loop .inv .3) (value-is (c .before .before .before .before .before .before .before .before .before .before .before .before .before .before .before .before .before .before .before .before .before .before .loop .inv .2) (c .before .before .before .before .before .before .before .before .before .before .before .before .before .before .before .before .before .before .token .given .1) (c .before .before .before .before .before .before .before .before .before .before .before .before .before .before .before .before .before .before .before .before .next-item .ensures)) (fresh-took (c .before .before .before .before .before .before .before .before .before .before .before .before .before .before .before .before .child-due .ensures) (c .before .before .before .before .before .before .before .before .before .before .stop .given .1) (c .before .before .before .before .before .before .before .before .before .before .before .before .before .before .read-value .ensures)) (c .before .before .before .before .before .before .before .before .before .before .before .before .before .before .read-value .kept .1 .1 .0)) (next-is (c .before .before .before .before .before .before .before .before .before .before .before .before .before .before .before .before .before .before .before .before .before .before .before .before .before .before .before .before .before .before .before .before .args .rules .sw) (c .before .before .before .before .before .before .before .before .before .before .before .before .before .before .before .before .before .before .before .before .before .before .before .before .before .before .before .before .before .before .before .before .args .text .now) (c .before .before .before .before .before .before .before .before .before .before .before .before .before .before .before .before .before .before .before .before .before .before .before .before .before .before .before .before .before .before .before .before .args .kind) _ ((fresh-took (c .before .before .before .before .before .before .before .before .before .before .before .before .before .before .before .before .child-due .ensures) (c .before .before .before .before .before .before .before .before .before .before .stop .given .1) (c .before .before .before .before .before .before .before .before .before .before .before .before .before .before .read-value .ensures)) .inside) (c .before .before .before .before .before .before .before .after-item .ensures) (X.Over _) (c .before .before .before .before .before .end2 .given .1))) (c .before .before .put-branch2 .ensures .0) (c .before .before .put-branch2 .ensures .1)
+read-container-returns-7 t c =
+    let the-loop = c .before .before .before .before .before .before .before .before .before .before .before .before .before .before .before .before .before .before .before .before .before .before .loop in
+    let the-child-due = c .before .before .before .before .before .before .before .before .before .before .before .before .before .before .before .before .child-due in
+    let the-stop = c .before .before .before .before .before .before .before .before .before .before .stop in
+    let the-read-value = c .before .before .before .before .before .before .before .before .before .before .before .before .before .before .read-value in
+    let the-args = c .before .before .before .before .before .before .before .before .before .before .before .before .before .before .before .before .before .before .before .before .before .before .before .before .before .before .before .before .before .before .before .before .args in
+    let the-put-branch2 = c .before .before .put-branch2 in
+    body-read (c .before .before .before .before .before .before .before .before .before .before .before .before .before .before .before .before .before .before .before .before .before .before .before .before .before .before .before .before .before .before .before .before .pre .1 .0 .label) (body-over (body-value (the-loop .inv .3) (value-is (the-loop .inv .2) (c .before .before .before .before .before .before .before .before .before .before .before .before .before .before .before .before .before .before .token .given .1) (c .before .before .before .before .before .before .before .before .before .before .before .before .before .before .before .before .before .before .before .before .next-item .ensures)) (fresh-read (the-child-due .ensures) (the-stop .given .1) (the-read-value .ensures)) (the-read-value .kept .1 .1 .0)) (next-is (the-args .rules .sw) (the-args .text .now) (the-args .kind) _ ((fresh-read (the-child-due .ensures) (the-stop .given .1) (the-read-value .ensures)) .inside) (c .before .before .before .before .before .before .before .after-item .ensures) (X.Over _) (c .before .before .before .before .before .end2 .given .1))) (the-put-branch2 .ensures .0) (the-put-branch2 .ensures .1)
 
 read-container-enum-known-comma : (t : ℕ) → read-container-lts.Need-enum-known-comma (read-container-calls t) (read-container-at t) read-container.Post read-container-Inv-loop read-container-μ-loop
 read-container-enum-known-comma t c = search needs
 
 read-container-loop-less : (t : ℕ) → read-container-lts.Need-loop-less (read-container-calls t) (read-container-at t) read-container.Post read-container-Inv-loop read-container-μ-loop
-read-container-loop-less t c = let T = fresh-took (c .before .before .before .before .before .before .before .before .before .before .before .before .child-due .ensures) (c .before .before .before .before .before .before .stop .given .1) (c .before .before .before .before .before .before .before .before .before .before .read-value .ensures) in let I = value-is (c .before .before .before .before .before .before .before .before .before .before .before .before .before .before .before .before .before .before .loop .inv .2) (c .before .before .before .before .before .before .before .before .before .before .before .before .before .before .token .given .1) (c .before .before .before .before .before .before .before .before .before .before .before .before .before .before .before .before .next-item .ensures) in let F = next-is (c .before .before .before .before .before .before .before .before .before .before .before .before .before .before .before .before .before .before .before .before .before .before .before .before .before .before .before .before .args .rules .sw) (c .before .before .before .before .before .before .before .before .before .before .before .before .before .before .before .before .before .before .before .before .before .before .before .before .before .before .before .before .args .text .now) (c .before .before .before .before .before .before .before .before .before .before .before .before .before .before .before .before .before .before .before .before .before .before .before .before .before .before .before .before .args .kind) _ ((fresh-took (c .before .before .before .before .before .before .before .before .before .before .before .before .child-due .ensures) (c .before .before .before .before .before .before .stop .given .1) (c .before .before .before .before .before .before .before .before .before .before .read-value .ensures)) .inside) (c .before .before .before .after-item .ensures) (X.More _) (c .before .comma .given .1) in omega (arith, T .ahead, I .ahead, F .ahead, F .within)
+read-container-loop-less t c = let T = fresh-read (c .before .before .before .before .before .before .before .before .before .before .before .before .child-due .ensures) (c .before .before .before .before .before .before .stop .given .1) (c .before .before .before .before .before .before .before .before .before .before .read-value .ensures) in let I = value-is (c .before .before .before .before .before .before .before .before .before .before .before .before .before .before .before .before .before .before .loop .inv .2) (c .before .before .before .before .before .before .before .before .before .before .before .before .before .before .token .given .1) (c .before .before .before .before .before .before .before .before .before .before .before .before .before .before .before .before .next-item .ensures) in let F = next-is (c .before .before .before .before .before .before .before .before .before .before .before .before .before .before .before .before .before .before .before .before .before .before .before .before .before .before .before .before .args .rules .sw) (c .before .before .before .before .before .before .before .before .before .before .before .before .before .before .before .before .before .before .before .before .before .before .before .before .before .before .before .before .args .text .now) (c .before .before .before .before .before .before .before .before .before .before .before .before .before .before .before .before .before .before .before .before .before .before .before .before .before .before .before .before .args .kind) _ ((fresh-read (c .before .before .before .before .before .before .before .before .before .before .before .before .child-due .ensures) (c .before .before .before .before .before .before .stop .given .1) (c .before .before .before .before .before .before .before .before .before .before .read-value .ensures)) .inside) (c .before .before .before .after-item .ensures) (X.More _) (c .before .comma .given .1) in omega (arith, T .ahead, I .ahead, F .ahead, F .within)
 
 read-container-loop-again : (t : ℕ) → read-container-lts.Need-loop-again (read-container-calls t) (read-container-at t) read-container.Post read-container-Inv-loop read-container-μ-loop
-read-container-loop-again t c = (_, _, c .before .before .before .before .before .before .before .before .before .before .before .before .before .before .before .before .before .before .loop .inv .2, body-more (body-value (c .before .before .before .before .before .before .before .before .before .before .before .before .before .before .before .before .before .before .loop .inv .3) (value-is (c .before .before .before .before .before .before .before .before .before .before .before .before .before .before .before .before .before .before .loop .inv .2) (c .before .before .before .before .before .before .before .before .before .before .before .before .before .before .token .given .1) (c .before .before .before .before .before .before .before .before .before .before .before .before .before .before .before .before .next-item .ensures)) (fresh-took (c .before .before .before .before .before .before .before .before .before .before .before .before .child-due .ensures) (c .before .before .before .before .before .before .stop .given .1) (c .before .before .before .before .before .before .before .before .before .before .read-value .ensures)) (c .before .before .before .before .before .before .before .before .before .before .read-value .kept .1 .1 .0)) (next-is (c .before .before .before .before .before .before .before .before .before .before .before .before .before .before .before .before .before .before .before .before .before .before .before .before .before .before .before .before .args .rules .sw) (c .before .before .before .before .before .before .before .before .before .before .before .before .before .before .before .before .before .before .before .before .before .before .before .before .before .before .before .before .args .text .now) (c .before .before .before .before .before .before .before .before .before .before .before .before .before .before .before .before .before .before .before .before .before .before .before .before .before .before .before .before .args .kind) _ ((fresh-took (c .before .before .before .before .before .before .before .before .before .before .before .before .child-due .ensures) (c .before .before .before .before .before .before .stop .given .1) (c .before .before .before .before .before .before .before .before .before .before .read-value .ensures)) .inside) (c .before .before .before .after-item .ensures) (X.More _) (c .before .comma .given .1)) (omega arith))
+read-container-loop-again t c = (_, _, c .before .before .before .before .before .before .before .before .before .before .before .before .before .before .before .before .before .before .loop .inv .2, body-more (body-value (c .before .before .before .before .before .before .before .before .before .before .before .before .before .before .before .before .before .before .loop .inv .3) (value-is (c .before .before .before .before .before .before .before .before .before .before .before .before .before .before .before .before .before .before .loop .inv .2) (c .before .before .before .before .before .before .before .before .before .before .before .before .before .before .token .given .1) (c .before .before .before .before .before .before .before .before .before .before .before .before .before .before .before .before .next-item .ensures)) (fresh-read (c .before .before .before .before .before .before .before .before .before .before .before .before .child-due .ensures) (c .before .before .before .before .before .before .stop .given .1) (c .before .before .before .before .before .before .before .before .before .before .read-value .ensures)) (c .before .before .before .before .before .before .before .before .before .before .read-value .kept .1 .1 .0)) (next-is (c .before .before .before .before .before .before .before .before .before .before .before .before .before .before .before .before .before .before .before .before .before .before .before .before .before .before .before .before .args .rules .sw) (c .before .before .before .before .before .before .before .before .before .before .before .before .before .before .before .before .before .before .before .before .before .before .before .before .before .before .before .before .args .text .now) (c .before .before .before .before .before .before .before .before .before .before .before .before .before .before .before .before .before .before .before .before .before .before .before .before .before .before .before .before .args .kind) _ ((fresh-read (c .before .before .before .before .before .before .before .before .before .before .before .before .child-due .ensures) (c .before .before .before .before .before .before .stop .given .1) (c .before .before .before .before .before .before .before .before .before .before .read-value .ensures)) .inside) (c .before .before .before .after-item .ensures) (X.More _) (c .before .comma .given .1)) (omega arith))
 
 read-identifier-returns : (t : ℕ) → read-identifier-lts.Need-returns (read-identifier-calls t) (read-identifier-at t) read-identifier.Post
-read-identifier-returns t c = record { is = name-twice _ _ _ _ _ (c .before .before .before .before .args .due .fresh) (c .before .before .before .before .args .due .any) _ _ _ _ (not-true _ (c .if1 .taken)) }
+read-identifier-returns t c =
+    let the-args = c .before .before .before .before .args in
+    record { is = name-twice _ _ _ _ _ (the-args .due .fresh) (the-args .due .any) _ _ _ _ (not-true _ (c .if1 .taken)) }
 
 read-identifier-returns-2 : (t : ℕ) → read-identifier-lts.Need-returns-2 (read-identifier-calls t) (read-identifier-at t) read-identifier.Post
-read-identifier-returns-2 t c = record { is = name-full (c .before .before .before .before .before .before .before .args .rules .sw) (c .before .before .before .before .before .before .before .args .rules .limits) (c .before .before .before .before .before .before .before .args .text .now) (c .before .before .before .before .before .before .before .args .name .start) (c .before .before .before .before .before .before .before .args .name .stop) (c .before .before .before .before .before .before .before .args .due .fresh) (c .before .before .before .before .before .before .before .args .due .any) (c .before .before .before .before .before .before .before .args .due .label) (c .before .before .before .before .before .before .before .args .due .spot .node) (c .before .before .before .before .before .before .before .args .due .spot .depth) (not-false (c .before .before .before .before .before .before .before .args .due .fresh) (c .before .before .before .if1 .left)) (c .if2 .taken) _ }
+read-identifier-returns-2 t c =
+    let the-args = c .before .before .before .before .before .before .before .args in
+    record { is = name-full (the-args .rules .sw) (the-args .rules .limits) (the-args .text .now) (the-args .name .start) (the-args .name .stop) (the-args .due .fresh) (the-args .due .any) (the-args .due .label) (the-args .due .spot .node) (the-args .due .spot .depth) (not-false (the-args .due .fresh) (c .before .before .before .if1 .left)) (c .if2 .taken) _ }
 
 read-identifier-named-due-requires : (t : ℕ) → read-identifier-lts.Need-named-due-requires (read-identifier-calls t) (read-identifier-at t) read-identifier.Post
-read-identifier-named-due-requires t c κs = record { start-low = omega (arith, c .before .before .before .before .before .before .before .pre .1 .1 .ordered, c .before .before .before .before .before .before .before .pre .1 .1 .inside, c .before .before .before .before .before .before .before .pre .1 .1 .short); stop-low = omega (arith, c .before .before .before .before .before .before .before .pre .1 .1 .inside, c .before .before .before .before .before .before .before .pre .1 .1 .short) }
+read-identifier-named-due-requires t c κs =
+    let the-pre = c .before .before .before .before .before .before .before .pre in
+    record { start-low = omega (arith, the-pre .1 .1 .ordered, the-pre .1 .1 .inside, the-pre .1 .1 .short); stop-low = omega (arith, the-pre .1 .1 .inside, the-pre .1 .1 .short) }
 
 read-identifier-token-after-requires : (t : ℕ) → read-identifier-lts.Need-token-after-requires (read-identifier-calls t) (read-identifier-at t) read-identifier.Post
 read-identifier-token-after-requires t c κs = search needs
@@ -232,10 +277,14 @@ read-identifier-enum-known-token : (t : ℕ) → read-identifier-lts.Need-enum-k
 read-identifier-enum-known-token t c = search needs
 
 read-identifier-read-value-requires : (t : ℕ) → read-identifier-lts.Need-read-value-requires (read-identifier-calls t) (read-identifier-at t) read-identifier.Post
-read-identifier-read-value-requires t c κs = let P = past-token (c .before .before .before .before .before .before .before .before .before .before .before .before .before .args .rules .sw) (c .before .before .before .before .before .before .before .before .before .before .before .before .before .args .text .now) (c .before .before .before .before .before .before .before .before .before .before .before .before .before .args .name .stop) 40 (c .before .before .before .before .before .before .before .before .before .before .before .before .before .pre .1 .1 .inside) _ (sym (c .before .before .before .before .token-after .ensures) ∙ c .before .before .token .given .1) in
-    let g : 2 * (length (c .before .before .before .before .before .before .before .before .before .before .before .before .before .args .text .now) - c .before .before .token .given .0 .0 .span .start) + 1 < t = omega (arith, c .before .before .before .before .before .before .before .before .before .before .before .before .before .pre .0, P .mark .ahead, P .mark .some, P .token .ahead, P .token .token .ordered, P .token .token .inside, c .before .before .before .before .before .before .before .before .before .before .before .before .before .pre .1 .1 .ordered) in (
+read-identifier-read-value-requires t c κs =
+    let the-args = c .before .before .before .before .before .before .before .before .before .before .before .before .before .args in
+    let the-pre = c .before .before .before .before .before .before .before .before .before .before .before .before .before .pre in
+    let the-token = c .before .before .token in
+    let P = past-token (the-args .rules .sw) (the-args .text .now) (the-args .name .stop) 40 (the-pre .1 .1 .inside) _ (sym (c .before .before .before .before .token-after .ensures) ∙ the-token .given .1) in
+    let g : 2 * (length (the-args .text .now) - the-token .given .0 .0 .span .start) + 1 < t = omega (arith, the-pre .0, P .mark .ahead, P .mark .some, P .token .ahead, P .token .token .ordered, P .token .token .inside, the-pre .1 .1 .ordered) in (
       g,
-      (named-ready (c .before .before .before .before .before .named-due .ensures) (c .before .before .before .before .before .before .before .before .before .before .before .before .before .pre .1 .0) (c .before .before .before .before .before .before .before .before .before .before .before .before .before .pre .1 .1) (c .before .before .before .before .before .before .if2 .left), (P .token .token, c .before .before .before .before .before .before .before .before .before .before .before .before .before .pre .1 .1 .short)),
+      (named-ready (c .before .before .before .before .before .named-due .ensures) (the-pre .1 .0) (the-pre .1 .1) (c .before .before .before .before .before .before .if2 .left), (P .token .token, the-pre .1 .1 .short)),
     )
 
 read-identifier-enum-known-refusal-2 : (t : ℕ) → read-identifier-lts.Need-enum-known-refusal-2 (read-identifier-calls t) (read-identifier-at t) read-identifier.Post
@@ -254,52 +303,79 @@ read-identifier-enum-known-end : (t : ℕ) → read-identifier-lts.Need-enum-kno
 read-identifier-enum-known-end t c = search needs
 
 read-identifier-cast-put-stop : (t : ℕ) → read-identifier-lts.Need-cast-put-stop (read-identifier-calls t) (read-identifier-at t) read-identifier.Post
-read-identifier-cast-put-stop t c = let Q = told-at ((took (c .before .before .before .before .before .before .stop .given .1) (due-as (c .before .before .before .before .before .before .before .before .before .before .before .before .before .before .before .before .named-due .ensures) (c .before .before .before .before .before .before .before .before .before .before .read-value .ensures))) .inside) (c .before .before .end .given .1) (c .before .before .before .before .one-mark .ensures) in omega (arith, Q .inside, c .before .before .before .before .before .before .before .before .before .before .before .before .before .before .before .before .before .before .before .before .before .before .before .before .pre .1 .1 .short)
+read-identifier-cast-put-stop t c = let Q = mark-at ((read-is (c .before .before .before .before .before .before .stop .given .1) (due-as (c .before .before .before .before .before .before .before .before .before .before .before .before .before .before .before .before .named-due .ensures) (c .before .before .before .before .before .before .before .before .before .before .read-value .ensures))) .inside) (c .before .before .end .given .1) (c .before .before .before .before .one-mark .ensures) in omega (arith, Q .inside, c .before .before .before .before .before .before .before .before .before .before .before .before .before .before .before .before .before .before .before .before .before .before .before .before .pre .1 .1 .short)
 
 read-identifier-put-stop-requires : (t : ℕ) → read-identifier-lts.Need-put-stop-requires (read-identifier-calls t) (read-identifier-at t) read-identifier.Post
 read-identifier-put-stop-requires t c κs = omega (arith, c .before .before .before .before .before .before .before .before .before .before .read-value .kept .1 .1 .0, c .before .before .before .before .before .before .before .before .before .before .before .before .before .before .before .before .before .if2 .left, c .before .before .before .before .before .before .before .before .before .before .before .before .before .before .before .before .before .before .before .before .before .before .before .before .pre .1 .0 .table .room)
 
 read-identifier-returns-3 : (t : ℕ) → read-identifier-lts.Need-returns-3 (read-identifier-calls t) (read-identifier-at t) read-identifier.Post
-read-identifier-returns-3 t c = record { is = name-not (c .before .before .before .before .before .before .before .before .before .before .before .before .args .rules .sw) (c .before .before .before .before .before .before .before .before .before .before .before .before .args .rules .limits) (c .before .before .before .before .before .before .before .before .before .before .before .before .args .text .now) (c .before .before .before .before .before .before .before .before .before .before .before .before .args .name .start) (c .before .before .before .before .before .before .before .before .before .before .before .before .args .name .stop) (c .before .before .before .before .before .before .before .before .before .before .before .before .args .due .fresh) (c .before .before .before .before .before .before .before .before .before .before .before .before .args .due .any) (c .before .before .before .before .before .before .before .before .before .before .before .before .args .due .label) (c .before .before .before .before .before .before .before .before .before .before .before .before .args .due .spot .node) (c .before .before .before .before .before .before .before .before .before .before .before .before .args .due .spot .depth) (not-false (c .before .before .before .before .before .before .before .before .before .before .before .before .args .due .fresh) (c .before .before .before .before .before .before .before .before .if1 .left)) (c .before .before .before .before .before .if2 .left) (c .before .before .before .before .before .before .before .before .before .before .before .before .pre .1 .1 .ordered) _ _ (c .before .before .before .before .before .before .before .before .before .before .before .before .pre .1 .1 .inside) (sym (c .before .before .before .token-after .ensures) ∙ c .before .refusal .given .1) }
+read-identifier-returns-3 t c =
+    let the-args = c .before .before .before .before .before .before .before .before .before .before .before .before .args in
+    let the-pre = c .before .before .before .before .before .before .before .before .before .before .before .before .pre in
+    record { is = name-not (the-args .rules .sw) (the-args .rules .limits) (the-args .text .now) (the-args .name .start) (the-args .name .stop) (the-args .due .fresh) (the-args .due .any) (the-args .due .label) (the-args .due .spot .node) (the-args .due .spot .depth) (not-false (the-args .due .fresh) (c .before .before .before .before .before .before .before .before .if1 .left)) (c .before .before .before .before .before .if2 .left) (the-pre .1 .1 .ordered) _ _ (the-pre .1 .1 .inside) (sym (c .before .before .before .token-after .ensures) ∙ c .before .refusal .given .1) }
 
 read-identifier-same-length : (t : ℕ) → read-identifier-lts.Need-same-length (read-identifier-calls t) (read-identifier-at t) read-identifier.Post
 read-identifier-same-length t c = c .before .before .before .before .before .read-value .kept .1 .1 .0
 
 read-identifier-returns-4 : (t : ℕ) → read-identifier-lts.Need-returns-4 (read-identifier-calls t) (read-identifier-at t) read-identifier.Post
-read-identifier-returns-4 t c = record { is = name-stop (c .before .before .before .before .before .before .before .before .before .before .before .before .before .before .before .before .before .before .before .args .rules .sw) (c .before .before .before .before .before .before .before .before .before .before .before .before .before .before .before .before .before .before .before .args .rules .limits) (c .before .before .before .before .before .before .before .before .before .before .before .before .before .before .before .before .before .before .before .args .text .now) (c .before .before .before .before .before .before .before .before .before .before .before .before .before .before .before .before .before .before .before .args .name .start) (c .before .before .before .before .before .before .before .before .before .before .before .before .before .before .before .before .before .before .before .args .name .stop) (c .before .before .before .before .before .before .before .before .before .before .before .before .before .before .before .before .before .before .before .args .due .fresh) (c .before .before .before .before .before .before .before .before .before .before .before .before .before .before .before .before .before .before .before .args .due .any) (c .before .before .before .before .before .before .before .before .before .before .before .before .before .before .before .before .before .before .before .args .due .label) (c .before .before .before .before .before .before .before .before .before .before .before .before .before .before .before .before .before .before .before .args .due .spot .node) (c .before .before .before .before .before .before .before .before .before .before .before .before .before .before .before .before .before .before .before .args .due .spot .depth) (not-false (c .before .before .before .before .before .before .before .before .before .before .before .before .before .before .before .before .before .before .before .args .due .fresh) (c .before .before .before .before .before .before .before .before .before .before .before .before .before .before .before .if1 .left)) (c .before .before .before .before .before .before .before .before .before .before .before .before .if2 .left) (c .before .before .before .before .before .before .before .before .before .before .before .before .before .before .before .before .before .before .before .pre .1 .1 .ordered) _ (past-token (c .before .before .before .before .before .before .before .before .before .before .before .before .before .before .before .before .before .before .before .args .rules .sw) (c .before .before .before .before .before .before .before .before .before .before .before .before .before .before .before .before .before .before .before .args .text .now) (c .before .before .before .before .before .before .before .before .before .before .before .before .before .before .before .before .before .before .before .args .name .stop) 40 (c .before .before .before .before .before .before .before .before .before .before .before .before .before .before .before .before .before .before .before .pre .1 .1 .inside) _ (sym (c .before .before .before .before .before .before .before .before .before .before .token-after .ensures) ∙ c .before .before .before .before .before .before .before .before .token .given .1)) _ _ _ _ (stops (c .before .refusal2 .given .1) (due-as (c .before .before .before .before .before .before .before .before .before .before .before .named-due .ensures) (c .before .before .before .before .before .read-value .ensures))) }
+read-identifier-returns-4 t c =
+    let the-args = c .before .before .before .before .before .before .before .before .before .before .before .before .before .before .before .before .before .before .before .args in
+    let the-pre = c .before .before .before .before .before .before .before .before .before .before .before .before .before .before .before .before .before .before .before .pre in
+    record { is = name-refused (the-args .rules .sw) (the-args .rules .limits) (the-args .text .now) (the-args .name .start) (the-args .name .stop) (the-args .due .fresh) (the-args .due .any) (the-args .due .label) (the-args .due .spot .node) (the-args .due .spot .depth) (not-false (the-args .due .fresh) (c .before .before .before .before .before .before .before .before .before .before .before .before .before .before .before .if1 .left)) (c .before .before .before .before .before .before .before .before .before .before .before .before .if2 .left) (the-pre .1 .1 .ordered) _ (past-token (the-args .rules .sw) (the-args .text .now) (the-args .name .stop) 40 (the-pre .1 .1 .inside) _ (sym (c .before .before .before .before .before .before .before .before .before .before .token-after .ensures) ∙ c .before .before .before .before .before .before .before .before .token .given .1)) _ _ _ _ (value-refused (c .before .refusal2 .given .1) (due-as (c .before .before .before .before .before .before .before .before .before .before .before .named-due .ensures) (c .before .before .before .before .before .read-value .ensures))) }
 
 read-identifier-same-length-2 : (t : ℕ) → read-identifier-lts.Need-same-length-2 (read-identifier-calls t) (read-identifier-at t) read-identifier.Post
 read-identifier-same-length-2 t c = c .before .before .before .before .before .before .before .before .before .read-value .kept .1 .1 .0
 
 read-identifier-returns-5 : (t : ℕ) → read-identifier-lts.Need-returns-5 (read-identifier-calls t) (read-identifier-at t) read-identifier.Post
-read-identifier-returns-5 t c = record { is = name-shut-not (c .before .before .before .before .before .before .before .before .before .before .before .before .before .before .before .before .before .before .before .before .before .before .before .args .rules .sw) (c .before .before .before .before .before .before .before .before .before .before .before .before .before .before .before .before .before .before .before .before .before .before .before .args .rules .limits) (c .before .before .before .before .before .before .before .before .before .before .before .before .before .before .before .before .before .before .before .before .before .before .before .args .text .now) (c .before .before .before .before .before .before .before .before .before .before .before .before .before .before .before .before .before .before .before .before .before .before .before .args .name .start) (c .before .before .before .before .before .before .before .before .before .before .before .before .before .before .before .before .before .before .before .before .before .before .before .args .name .stop) (c .before .before .before .before .before .before .before .before .before .before .before .before .before .before .before .before .before .before .before .before .before .before .before .args .due .fresh) (c .before .before .before .before .before .before .before .before .before .before .before .before .before .before .before .before .before .before .before .before .before .before .before .args .due .any) (c .before .before .before .before .before .before .before .before .before .before .before .before .before .before .before .before .before .before .before .before .before .before .before .args .due .label) (c .before .before .before .before .before .before .before .before .before .before .before .before .before .before .before .before .before .before .before .before .before .before .before .args .due .spot .node) (c .before .before .before .before .before .before .before .before .before .before .before .before .before .before .before .before .before .before .before .before .before .before .before .args .due .spot .depth) (not-false (c .before .before .before .before .before .before .before .before .before .before .before .before .before .before .before .before .before .before .before .before .before .before .before .args .due .fresh) (c .before .before .before .before .before .before .before .before .before .before .before .before .before .before .before .before .before .before .before .if1 .left)) (c .before .before .before .before .before .before .before .before .before .before .before .before .before .before .before .before .if2 .left) (c .before .before .before .before .before .before .before .before .before .before .before .before .before .before .before .before .before .before .before .before .before .before .before .pre .1 .1 .ordered) _ (past-token (c .before .before .before .before .before .before .before .before .before .before .before .before .before .before .before .before .before .before .before .before .before .before .before .args .rules .sw) (c .before .before .before .before .before .before .before .before .before .before .before .before .before .before .before .before .before .before .before .before .before .before .before .args .text .now) (c .before .before .before .before .before .before .before .before .before .before .before .before .before .before .before .before .before .before .before .before .before .before .before .args .name .stop) 40 (c .before .before .before .before .before .before .before .before .before .before .before .before .before .before .before .before .before .before .before .before .before .before .before .pre .1 .1 .inside) _ (sym (c .before .before .before .before .before .before .before .before .before .before .before .before .before .before .token-after .ensures) ∙ c .before .before .before .before .before .before .before .before .before .before .before .before .token .given .1)) _ _ _ _ _ (took (c .before .before .before .before .before .stop .given .1) (due-as (c .before .before .before .before .before .before .before .before .before .before .before .before .before .before .before .named-due .ensures) (c .before .before .before .before .before .before .before .before .before .read-value .ensures))) _ _ (told-not ((took (c .before .before .before .before .before .stop .given .1) (due-as (c .before .before .before .before .before .before .before .before .before .before .before .before .before .before .before .named-due .ensures) (c .before .before .before .before .before .before .before .before .before .read-value .ensures))) .inside) (c .before .refusal3 .given .1) (c .before .before .before .one-mark .ensures)) }
+read-identifier-returns-5 t c =
+    let the-args = c .before .before .before .before .before .before .before .before .before .before .before .before .before .before .before .before .before .before .before .before .before .before .before .args in
+    let the-pre = c .before .before .before .before .before .before .before .before .before .before .before .before .before .before .before .before .before .before .before .before .before .before .before .pre in
+    let the-stop = c .before .before .before .before .before .stop in
+    let the-named-due = c .before .before .before .before .before .before .before .before .before .before .before .before .before .before .before .named-due in
+    let the-read-value = c .before .before .before .before .before .before .before .before .before .read-value in
+    record { is = name-shut-not (the-args .rules .sw) (the-args .rules .limits) (the-args .text .now) (the-args .name .start) (the-args .name .stop) (the-args .due .fresh) (the-args .due .any) (the-args .due .label) (the-args .due .spot .node) (the-args .due .spot .depth) (not-false (the-args .due .fresh) (c .before .before .before .before .before .before .before .before .before .before .before .before .before .before .before .before .before .before .before .if1 .left)) (c .before .before .before .before .before .before .before .before .before .before .before .before .before .before .before .before .if2 .left) (the-pre .1 .1 .ordered) _ (past-token (the-args .rules .sw) (the-args .text .now) (the-args .name .stop) 40 (the-pre .1 .1 .inside) _ (sym (c .before .before .before .before .before .before .before .before .before .before .before .before .before .before .token-after .ensures) ∙ c .before .before .before .before .before .before .before .before .before .before .before .before .token .given .1)) _ _ _ _ _ (read-is (the-stop .given .1) (due-as (the-named-due .ensures) (the-read-value .ensures))) _ _ (mark-refused ((read-is (the-stop .given .1) (due-as (the-named-due .ensures) (the-read-value .ensures))) .inside) (c .before .refusal3 .given .1) (c .before .before .before .one-mark .ensures)) }
 
 read-identifier-same-length-3 : (t : ℕ) → read-identifier-lts.Need-same-length-3 (read-identifier-calls t) (read-identifier-at t) read-identifier.Post
 read-identifier-same-length-3 t c = c .before .before .put-stop .kept .0 ∙ c .before .before .before .before .before .before .before .before .before .before .before .before .before .read-value .kept .1 .1 .0
 
 read-identifier-returns-6 : (t : ℕ) → read-identifier-lts.Need-returns-6 (read-identifier-calls t) (read-identifier-at t) read-identifier.Post
-read-identifier-returns-6 t c = record { is = name-took (c .before .before .before .before .before .before .before .before .before .before .before .before .before .before .before .before .before .before .before .before .before .before .before .before .before .before .before .args .rules .sw) (c .before .before .before .before .before .before .before .before .before .before .before .before .before .before .before .before .before .before .before .before .before .before .before .before .before .before .before .args .rules .limits) (c .before .before .before .before .before .before .before .before .before .before .before .before .before .before .before .before .before .before .before .before .before .before .before .before .before .before .before .args .text .now) (c .before .before .before .before .before .before .before .before .before .before .before .before .before .before .before .before .before .before .before .before .before .before .before .before .before .before .before .args .name .start) (c .before .before .before .before .before .before .before .before .before .before .before .before .before .before .before .before .before .before .before .before .before .before .before .before .before .before .before .args .name .stop) (c .before .before .before .before .before .before .before .before .before .before .before .before .before .before .before .before .before .before .before .before .before .before .before .before .before .before .before .args .due .fresh) (c .before .before .before .before .before .before .before .before .before .before .before .before .before .before .before .before .before .before .before .before .before .before .before .before .before .before .before .args .due .any) (c .before .before .before .before .before .before .before .before .before .before .before .before .before .before .before .before .before .before .before .before .before .before .before .before .before .before .before .args .due .label) (c .before .before .before .before .before .before .before .before .before .before .before .before .before .before .before .before .before .before .before .before .before .before .before .before .before .before .before .args .due .spot .node) (c .before .before .before .before .before .before .before .before .before .before .before .before .before .before .before .before .before .before .before .before .before .before .before .before .before .before .before .args .due .spot .depth) (not-false (c .before .before .before .before .before .before .before .before .before .before .before .before .before .before .before .before .before .before .before .before .before .before .before .before .before .before .before .args .due .fresh) (c .before .before .before .before .before .before .before .before .before .before .before .before .before .before .before .before .before .before .before .before .before .before .before .if1 .left)) (c .before .before .before .before .before .before .before .before .before .before .before .before .before .before .before .before .before .before .before .before .if2 .left) (c .before .before .before .before .before .before .before .before .before .before .before .before .before .before .before .before .before .before .before .before .before .before .before .before .before .before .before .pre .1 .1 .ordered) _ (past-token (c .before .before .before .before .before .before .before .before .before .before .before .before .before .before .before .before .before .before .before .before .before .before .before .before .before .before .before .args .rules .sw) (c .before .before .before .before .before .before .before .before .before .before .before .before .before .before .before .before .before .before .before .before .before .before .before .before .before .before .before .args .text .now) (c .before .before .before .before .before .before .before .before .before .before .before .before .before .before .before .before .before .before .before .before .before .before .before .before .before .before .before .args .name .stop) 40 (c .before .before .before .before .before .before .before .before .before .before .before .before .before .before .before .before .before .before .before .before .before .before .before .before .before .before .before .pre .1 .1 .inside) _ (sym (c .before .before .before .before .before .before .before .before .before .before .before .before .before .before .before .before .before .before .token-after .ensures) ∙ c .before .before .before .before .before .before .before .before .before .before .before .before .before .before .before .before .token .given .1)) _ _ _ _ _ (took (c .before .before .before .before .before .before .before .before .before .stop .given .1) (due-as (c .before .before .before .before .before .before .before .before .before .before .before .before .before .before .before .before .before .before .before .named-due .ensures) (c .before .before .before .before .before .before .before .before .before .before .before .before .before .read-value .ensures))) (c .before .before .before .before .before .before .before .before .before .before .before .before .before .before .before .before .before .before .before .before .before .before .before .before .before .before .before .pre .1 .0 .unnamed (not-false (c .before .before .before .before .before .before .before .before .before .before .before .before .before .before .before .before .before .before .before .before .before .before .before .before .before .before .before .args .due .fresh) (c .before .before .before .before .before .before .before .before .before .before .before .before .before .before .before .before .before .before .before .before .before .before .before .if1 .left))) _ (told-at ((took (c .before .before .before .before .before .before .before .before .before .stop .given .1) (due-as (c .before .before .before .before .before .before .before .before .before .before .before .before .before .before .before .before .before .before .before .named-due .ensures) (c .before .before .before .before .before .before .before .before .before .before .before .before .before .read-value .ensures))) .inside) (c .before .before .before .before .before .end .given .1) (c .before .before .before .before .before .before .before .one-mark .ensures)) _ (c .before .before .put-stop .ensures) }
+read-identifier-returns-6 t c =
+    let the-args = c .before .before .before .before .before .before .before .before .before .before .before .before .before .before .before .before .before .before .before .before .before .before .before .before .before .before .before .args in
+    let the-if1 = c .before .before .before .before .before .before .before .before .before .before .before .before .before .before .before .before .before .before .before .before .before .before .before .if1 in
+    let the-pre = c .before .before .before .before .before .before .before .before .before .before .before .before .before .before .before .before .before .before .before .before .before .before .before .before .before .before .before .pre in
+    let the-stop = c .before .before .before .before .before .before .before .before .before .stop in
+    let the-named-due = c .before .before .before .before .before .before .before .before .before .before .before .before .before .before .before .before .before .before .before .named-due in
+    let the-read-value = c .before .before .before .before .before .before .before .before .before .before .before .before .before .read-value in
+    record { is = name-read (the-args .rules .sw) (the-args .rules .limits) (the-args .text .now) (the-args .name .start) (the-args .name .stop) (the-args .due .fresh) (the-args .due .any) (the-args .due .label) (the-args .due .spot .node) (the-args .due .spot .depth) (not-false (the-args .due .fresh) (the-if1 .left)) (c .before .before .before .before .before .before .before .before .before .before .before .before .before .before .before .before .before .before .before .before .if2 .left) (the-pre .1 .1 .ordered) _ (past-token (the-args .rules .sw) (the-args .text .now) (the-args .name .stop) 40 (the-pre .1 .1 .inside) _ (sym (c .before .before .before .before .before .before .before .before .before .before .before .before .before .before .before .before .before .before .token-after .ensures) ∙ c .before .before .before .before .before .before .before .before .before .before .before .before .before .before .before .before .token .given .1)) _ _ _ _ _ (read-is (the-stop .given .1) (due-as (the-named-due .ensures) (the-read-value .ensures))) (the-pre .1 .0 .unnamed (not-false (the-args .due .fresh) (the-if1 .left))) _ (mark-at ((read-is (the-stop .given .1) (due-as (the-named-due .ensures) (the-read-value .ensures))) .inside) (c .before .before .before .before .before .end .given .1) (c .before .before .before .before .before .before .before .one-mark .ensures)) _ (c .before .before .put-stop .ensures) }
 
 read-value-begin-of-requires : (t : ℕ) → read-value-lts.Need-begin-of-requires (read-value-calls t) (read-value-at t) read-value.Post
-read-value-begin-of-requires t c κs = (c .before .before .pre .1 .1 .0, c .before .before .pre .1 .1 .1)
+read-value-begin-of-requires t c κs =
+    let the-pre = c .before .before .pre in
+    (the-pre .1 .1 .0, the-pre .1 .1 .1)
 
 read-value-enum-known-kind : (t : ℕ) → read-value-lts.Need-enum-known-kind (read-value-calls t) (read-value-at t) read-value.Post
 read-value-enum-known-kind t c = search needs
 
 read-value-read-container-requires : (t : ℕ) → read-value-lts.Need-read-container-requires (read-value-calls t) (read-value-at t) read-value.Post
-read-value-read-container-requires t c κs = (omega arith, (c .before .before .before .before .before .before .before .pre .1 .0, record { ordered = c .before .before .before .before .before .before .before .pre .1 .1 .0 .ordered; inside = c .before .before .before .before .before .before .before .pre .1 .1 .0 .inside; short = c .before .before .before .before .before .before .before .pre .1 .1 .1 }))
+read-value-read-container-requires t c κs =
+    let the-pre = c .before .before .before .before .before .before .before .pre in
+    (omega arith, (the-pre .1 .0, record { ordered = the-pre .1 .1 .0 .ordered; inside = the-pre .1 .1 .0 .inside; short = the-pre .1 .1 .1 }))
 
 read-value-enum-known-words : (t : ℕ) → read-value-lts.Need-enum-known-words (read-value-calls t) (read-value-at t) read-value.Post
 read-value-enum-known-words t c = search needs
 
 read-value-put-leaf-requires : (t : ℕ) → read-value-lts.Need-put-leaf-requires (read-value-calls t) (read-value-at t) read-value.Post
-read-value-put-leaf-requires t c κs = (c .before .before .before .before .before .before .before .pre .1 .0, omega (arith, c .before .before .before .before .before .before .before .pre .1 .1 .0 .inside, c .before .before .before .before .before .before .before .pre .1 .1 .1))
+read-value-put-leaf-requires t c κs =
+    let the-pre = c .before .before .before .before .before .before .before .pre in
+    (the-pre .1 .0, omega (arith, the-pre .1 .1 .0 .inside, the-pre .1 .1 .1))
 
 read-value-enum-told : (t : ℕ) → read-value-lts.Need-enum-told (read-value-calls t) (read-value-at t) read-value.Post
 read-value-enum-told t c = search needs
 
 read-value-read-identifier-requires : (t : ℕ) → read-value-lts.Need-read-identifier-requires (read-value-calls t) (read-value-at t) read-value.Post
-read-value-read-identifier-requires t c κs = (omega arith, (c .before .before .before .before .before .before .pre .1 .0, record { ordered = c .before .before .before .before .before .before .pre .1 .1 .0 .ordered; inside = c .before .before .before .before .before .before .pre .1 .1 .0 .inside; short = c .before .before .before .before .before .before .pre .1 .1 .1 }))
+read-value-read-identifier-requires t c κs =
+    let the-pre = c .before .before .before .before .before .before .pre in
+    (omega arith, (the-pre .1 .0, record { ordered = the-pre .1 .1 .0 .ordered; inside = the-pre .1 .1 .0 .inside; short = the-pre .1 .1 .1 }))
 
 read-value-enum-told-2 : (t : ℕ) → read-value-lts.Need-enum-told-2 (read-value-calls t) (read-value-at t) read-value.Post
 read-value-enum-told-2 t c = search needs
@@ -314,7 +390,10 @@ read-value-same-length-2 : (t : ℕ) → read-value-lts.Need-same-length-2 (read
 read-value-same-length-2 t c = c .before .before .put-leaf .kept .1 .0
 
 read-value-returns-2 : (t : ℕ) → read-value-lts.Need-returns-2 (read-value-calls t) (read-value-at t) read-value.Post
-read-value-returns-2 t c = leaf-read (c .before .before .before .before .before .before .before .before .before .before .pre .1 .0) (record { ordered = c .before .before .before .before .before .before .before .before .before .before .pre .1 .1 .0 .ordered; inside = c .before .before .before .before .before .before .before .before .before .before .pre .1 .1 .0 .inside; short = c .before .before .before .before .before .before .before .before .before .before .pre .1 .1 .1 }) (begun-as (Z.Scalar _) (c .before .before .before .before .before .words .given .1) (c .before .before .before .before .before .before .before .begin-of .ensures)) (c .before .before .put-leaf .ensures .0) (c .before .before .put-leaf .ensures .1)
+read-value-returns-2 t c =
+    let the-pre = c .before .before .before .before .before .before .before .before .before .before .pre in
+    let the-put-leaf = c .before .before .put-leaf in
+    leaf-read (the-pre .1 .0) (record { ordered = the-pre .1 .1 .0 .ordered; inside = the-pre .1 .1 .0 .inside; short = the-pre .1 .1 .1 }) (begun-as (Z.Scalar _) (c .before .before .before .before .before .words .given .1) (c .before .before .before .before .before .before .before .begin-of .ensures)) (the-put-leaf .ensures .0) (the-put-leaf .ensures .1)
 
 read-value-same-length-3 : (t : ℕ) → read-value-lts.Need-same-length-3 (read-value-calls t) (read-value-at t) read-value.Post
 read-value-same-length-3 t c = c .before .before .read-identifier .kept .1 .1 .0
@@ -323,7 +402,9 @@ read-value-returns-3 : (t : ℕ) → read-value-lts.Need-returns-3 (read-value-c
 read-value-returns-3 t c = begins-as (begun-as Z.Identifier (c .before .before .before .before .enum-told .given .1) (c .before .before .before .before .before .before .begin-of .ensures)) (c .before .before .read-identifier .ensures)
 
 read-value-returns-4 : (t : ℕ) → read-value-lts.Need-returns-4 (read-value-calls t) (read-value-at t) read-value.Post
-read-value-returns-4 t c = record { is = nothing-stops _ _ _ _ _ (c .before .before .before .before .before .args .due .fresh) (c .before .before .before .before .before .args .due .any) _ _ _ _ _ (begun-as Z.Nothing (c .enum-told2 .given .1) (c .before .before .begin-of .ensures)) }
+read-value-returns-4 t c =
+    let the-args = c .before .before .before .before .before .args in
+    record { is = nothing-refused _ _ _ _ _ (the-args .due .fresh) (the-args .due .any) _ _ _ _ _ (begun-as Z.Nothing (c .enum-told2 .given .1) (c .before .before .begin-of .ensures)) }
 
 pub +read-container+read-identifier+read-value-spec : {M : Type 1} → statement M
 +read-container+read-identifier+read-value-spec =

@@ -1,22 +1,21 @@
+-- made by tools/proof.py from answers/values/put_branch (answers 7a41d07ca3a7, proof 780eb23b0244): edit that file, not this one
+use borrow.Author.Needs.{needs}
 use native.Mathlib.Omega.{arith}
 use mathlib.Core.Path.{refl, ap, _∙_}
 use Prim.Native.Nat.{ℕ, _*_}
 use lib.Seq.{sets}
 use Rattle.reader.specs.Tree.{nodeWords}
 use Rattle.reader.specs.Internal.Values.{rowWords}
-use borrow.Author.Needs.{needs}
 use Rattle.reader.proofs.values.put_branch.Statement.{statement}
 use Rattle.reader.proofs.values.put_branch.Tie as tie
-use Rattle.reader.proofs.values.put_branch.Reads as reads
-use Rattle.reader.proofs.values.put_branch.Lts as lts
-use Rattle.reader.proofs.rows.kind_word.Reads as kind-word-reads
-use Rattle.reader.proofs.rows.put_row.Reads as put-row-reads
 
 kind-word-requires : tie.Need-kind-word-requires
 kind-word-requires c κs = search needs
 
 cast-t8 : tie.Need-cast-t8
-cast-t8 c = omega (arith, c .before .before .before .pre .1, c .before .before .before .pre .0 .next-low)
+cast-t8 c =
+    let the-pre = c .before .before .before .pre in
+    omega (arith, the-pre .1, the-pre .0 .next-low)
 
 put-row-requires : tie.Need-put-row-requires
 put-row-requires c κs = c .before .before .before .before .pre .0
@@ -25,7 +24,9 @@ same-length : tie.Need-same-length
 same-length c = omega arith
 
 returns : tie.Need-returns
-returns c = (refl, c .before .before .put-row .ensures ∙ ap (λ (k : ℕ). sets (c .before .before .before .before .before .before .before .args .table .now) (nodeWords * c .before .before .before .before .before .before .before .args .due .spot .node) (rowWords k (c .before .before .before .before .before .before .before .args .due .spot .parent) (c .before .before .before .before .before .before .before .args .due .label) (c .before .before .before .before .before .before .before .args .stop) (c .before .before .before .before .before .before .before .args .children .next) (c .before .before .before .before .before .before .before .args .children .count) 0 0)) (c .before .before .before .before .before .kind-word .ensures))
+returns c =
+    let the-args = c .before .before .before .before .before .before .before .args in
+    (refl, c .before .before .put-row .ensures ∙ ap (λ (k : ℕ). sets (the-args .table .now) (nodeWords * the-args .due .spot .node) (rowWords k (the-args .due .spot .parent) (the-args .due .label) (the-args .stop) (the-args .children .next) (the-args .children .count) 0 0)) (c .before .before .before .before .before .kind-word .ensures))
 
 pub put-branch-spec : {M : Type 1} → statement M
 put-branch-spec =
