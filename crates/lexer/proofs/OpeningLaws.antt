@@ -14,7 +14,6 @@ use Rattle.text.specs.declared.switches.Switches.{Switches}
 use Rattle.text.specs.Bytes.{front, begins, is, Class, classOf, classNumber, oneOf}
 use Rattle.text.proofs.Choice.{cond-both, both-right}
 use Rattle.text.proofs.ClassLaws.{classAt, class-by, quote-number}
-use Rattle.literals.specs.declared.decoder.Body.{Body}
 use Rattle.literals.specs.declared.decoder.Body.the-variants as Y
 use Rattle.lexer.specs.declared.opening.StringHead.{StringHead}
 use Rattle.lexer.specs.declared.opening.Opening.{Opening}
@@ -241,17 +240,17 @@ module _ (sw : Switches) (s : List ℕ) (at : ℕ) where
       rw (lt-ltb at (length s) h, drop-cons s at 0 h)
       (ap (found at) (opening-item sw (getD s at 0) (drop (suc at) s) (ap mayOpen (sym e) ∙ o)))
 
-  pub string-found : (h : StringHead) → openingOf sw (drop at s) ≡ O.String h
+  pub opened-string : (h : StringHead) → openingOf sw (drop at s) ≡ O.String h
       → found at (stringItem sw (h .«is_text») (h .body) (h .before - 1) (h .hashes) (drop (at + h .before) s))
       ≡ found at (openedItem sw (openingOf sw (drop at s)) (drop at s))
   unfolding openedItem
-  string-found h e = rw (e, drop-drop (h .before) at s)
+  opened-string h e = rw (e, drop-drop (h .before) at s)
 
-  pub broken-found : openingOf sw (drop at s) ≡ O.Broken → F.Refused 3 ≡ found at (openedItem sw (openingOf sw (drop at s)) (drop at s))
+  pub opened-broken : openingOf sw (drop at s) ≡ O.Broken → F.Refused 3 ≡ found at (openedItem sw (openingOf sw (drop at s)) (drop at s))
   unfolding openedItem found
-  broken-found e = rw e
+  opened-broken e = rw e
 
-  pub word-found : openingOf sw (drop at s) ≡ O.Nothing
+  pub opened-word : openingOf sw (drop at s) ≡ O.Nothing
       → found at (wordItem (getD s at 0) (drop (at + 1) s)) ≡ found at (openedItem sw (openingOf sw (drop at s)) (drop at s))
   unfolding openedItem
-  word-found e = let z : at + 0 ≡ at = omega arith in rw (e, drop-drop 1 at s, getD-drop at s 0 0, z)
+  opened-word e = let z : at + 0 ≡ at = omega arith in rw (e, drop-drop 1 at s, getD-drop at s 0 0, z)

@@ -3,7 +3,7 @@
 use mathlib.Core.Path.{_≡_, refl, sym, ap, _∙_, subst}
 use Prim.Native.Nat.{ℕ, suc, _+_, _-_, _≤_, _<_}
 use native.Mathlib.Omega.{arith}
-use mathlib.Core.Bool.{Bool, true, false, cond, _&&_, _||_, false≢true}
+use mathlib.Core.Bool.{Bool, true, false, cond, false≢true}
 use mathlib.Core.Option.{Option, none, some}
 use mathlib.Core.List.{List, [], _∷_}
 use lib.Dec.{T, eqb, eqb→eq}
@@ -14,7 +14,6 @@ use Rattle.text.specs.declared.switches.Switches.{Switches}
 use Rattle.text.specs.Bytes.{front, is, Class, classOf, classNumber, oneOf, isWordByte, isNumberByte}
 use Rattle.text.specs.Utf8.{isUtf8}
 use Rattle.literals.specs.declared.decoder.Body.{Body}
-use Rattle.literals.specs.declared.decoder.Body.the-variants as Y
 use Rattle.literals.specs.declared.decoder.Decoder.the-variants as D
 use Rattle.literals.specs.declared.content.Written.the-variants as W
 use Rattle.literals.specs.Content.{decoded, startOf, content, onlyUtf8, contentOf, fitted, placed, sameContent}
@@ -227,6 +226,10 @@ part-holds sw (b ∷ l) y = by (mayOpen (classNumber (classOf b))) refl
         (word-part sw (b ∷ l)
         (y .is ∙ ap some (class-whole sw (classOf b) b l (y .content) q (y .is))))
 
+-- the same of what `part_of` answers
+pub part-is : (sw : Switches) (s : List ℕ) (p : Part) → Keyed sw s → p ≡ partOf sw s → PartIs sw s p
+part-is sw s p y e = subst (PartIs sw s) (sym e) (part-holds sw s y)
+
 -- ---- what an answer of `item_at` says
 
 -- whether it is a token
@@ -326,6 +329,6 @@ pub part-same : (sw : Switches) (s : List ℕ) (p : Part) (body : Body) (t : Lis
     → sameContent (content sw (p .body) (take (p .span .stop - p .span .start) (drop (p .span .start) s))) (content sw body t)
     ≡ sameContent (tokenContent sw s) (content sw body t)
 part-same sw s p body t y e =
-    let i = subst (PartIs sw s) (sym e) (part-holds sw s y) in
+    let i = part-is sw s p y e in
     ap (λ (o : Option (List ℕ)). sameContent o (content sw body t))
     (part-content sw s (take (p .span .stop - p .span .start) (drop (p .span .start) s)) (p .«is_text») (p .body) y (i .holds))

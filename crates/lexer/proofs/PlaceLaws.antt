@@ -1,23 +1,20 @@
 -- What stands at a place of a text, by the bytes there: each law is what one way out of a function of src/item.rt has to show.
 -- Assumes nothing.
-use mathlib.Core.Path.{_≡_, refl, sym, ap, _∙_, subst}
-use Prim.Native.Nat.{ℕ, zero, suc, _+_, _-_, _≤_, _<_}
-use native.Mathlib.Nat.{suc-add}
+use mathlib.Core.Path.{_≡_, refl, sym, ap, _∙_}
+use Prim.Native.Nat.{ℕ, suc, _+_, _-_, _≤_, _<_}
 use native.Mathlib.Numerals.{add-one}
 use native.Mathlib.Omega.{arith}
-use mathlib.Core.Bool.{Bool, true, false, cond, _&&_, _||_, false≢true}
+use mathlib.Core.Bool.{Bool, true, false}
 use mathlib.Core.Option.{Option, none, some}
 use mathlib.Core.List.{List, [], _∷_}
-use lib.Dec.{T, eqb}
 use lib.ListN.{length, take, drop, getD, length-drop}
-use lib.Seq.{drop-cons, drop-drop, getD-drop}
+use lib.Seq.{getD-drop}
 use borrow.Author.Tests.{eq-eqb, ne-eqb, lt-ltb, le-ltb}
 use Rattle.text.specs.declared.switches.Switches.{Switches}
-use Rattle.text.specs.Bytes.{front, begins, is, Class, classOf, classNumber, isWordByte, isNumberByte}
+use Rattle.text.specs.Bytes.{front, Class, classOf, classNumber, isWordByte, isNumberByte}
 use Rattle.text.proofs.ClassLaws.{classAt, class-by}
 use Rattle.text.proofs.ListLaws.{getD-inside, drop-next, part-next}
 use Rattle.literals.specs.declared.decoder.Body.{Body}
-use Rattle.literals.specs.declared.decoder.Body.the-variants as Y
 use Rattle.literals.specs.declared.content.Measure.the-variants as M
 use Rattle.literals.specs.Content.{contentOf, measured}
 use Rattle.literals.specs.declared.number.Meaning.{Meaning}
@@ -28,7 +25,7 @@ use Rattle.lexer.specs.declared.item.TokenKind.the-variants as K
 use Rattle.lexer.specs.declared.item.Found.{Found}
 use Rattle.lexer.specs.declared.item.Found.the-variants as F
 use Rattle.lexer.specs.Closing.{closing, block, notNewline}
-use Rattle.lexer.specs.Token.{fault, blockItem, comment, contentItem, closedItem, hasEscapes, stringItem, hashCount, rawItem, opensRaw, wordItem, meantItem, numberItem, smallItem, itemOf, item, itemAt}
+use Rattle.lexer.specs.Token.{fault, blockItem, comment, contentItem, closedItem, hasEscapes, stringItem, wordItem, meantItem, numberItem, itemOf, item, itemAt}
 use Rattle.lexer.specs.Answer.{kindOf, found, foundAt}
 use Rattle.lexer.specs.Internal.{stringFound}
 use Rattle.lexer.proofs.ItemCases.{front-le}

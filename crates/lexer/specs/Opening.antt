@@ -11,7 +11,6 @@ use Rattle.text.specs.declared.switches.Switches.{Switches}
 use Rattle.text.specs.Bytes.{begins, ascii}
 use Rattle.literals.specs.declared.decoder.Body.{Body}
 use Rattle.literals.specs.declared.decoder.Body.the-variants as Y
-use Rattle.lexer.specs.declared.opening.StringHead.{StringHead}
 use Rattle.lexer.specs.declared.opening.Opening.{Opening}
 use Rattle.lexer.specs.declared.opening.Opening.the-variants as O
 use Rattle.lexer.specs.declared.token.Part.{Part}

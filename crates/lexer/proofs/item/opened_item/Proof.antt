@@ -1,7 +1,7 @@
 use native.Mathlib.Omega.{arith}
 use mathlib.Core.Path.{sym, _∙_}
 use lib.ListN.{length-drop, drop}
-use Rattle.lexer.proofs.OpeningLaws.{head-within, string-found, broken-found, word-found}
+use Rattle.lexer.proofs.OpeningLaws.{head-within, opened-string, opened-broken, opened-word}
 use borrow.Author.Needs.{needs}
 use Rattle.lexer.proofs.item.opened_item.Statement.{statement}
 use Rattle.lexer.proofs.item.opened_item.Tie as tie
@@ -31,13 +31,13 @@ word-item-requires : tie.Need-word-item-requires
 word-item-requires c κs = (c .before .before .before .before .pre .0, c .before .before .before .before .pre .1)
 
 returns : tie.Need-returns
-returns c = c .string-item .ensures ∙ string-found (c .before .before .before .before .before .before .args .sw) (c .before .before .before .before .before .before .args .text .now) (c .before .before .before .before .before .before .args .at) (c .before .before .head .given .0 .0) (sym (c .before .before .before .before .opening-of .ensures) ∙ c .before .before .head .given .1)
+returns c = c .string-item .ensures ∙ opened-string (c .before .before .before .before .before .before .args .sw) (c .before .before .before .before .before .before .args .text .now) (c .before .before .before .before .before .before .args .at) (c .before .before .head .given .0 .0) (sym (c .before .before .before .before .opening-of .ensures) ∙ c .before .before .head .given .1)
 
 returns-2 : tie.Need-returns-2
-returns-2 c = broken-found (c .before .before .before .before .args .sw) (c .before .before .before .before .args .text .now) (c .before .before .before .before .args .at) (sym (c .before .before .opening-of .ensures) ∙ c .enum-told .given .1)
+returns-2 c = opened-broken (c .before .before .before .before .args .sw) (c .before .before .before .before .args .text .now) (c .before .before .before .before .args .at) (sym (c .before .before .opening-of .ensures) ∙ c .enum-told .given .1)
 
 returns-3 : tie.Need-returns-3
-returns-3 c = c .word-item .ensures ∙ word-found (c .before .before .before .before .before .args .sw) (c .before .before .before .before .before .args .text .now) (c .before .before .before .before .before .args .at) (sym (c .before .before .before .opening-of .ensures) ∙ c .before .enum-told2 .given .1)
+returns-3 c = c .word-item .ensures ∙ opened-word (c .before .before .before .before .before .args .sw) (c .before .before .before .before .before .args .text .now) (c .before .before .before .before .before .args .at) (sym (c .before .before .before .opening-of .ensures) ∙ c .before .enum-told2 .given .1)
 
 pub opened-item-spec : {M : Type 1} → statement M
 opened-item-spec =

@@ -1,6 +1,6 @@
 use native.Mathlib.Omega.{arith}
-use mathlib.Core.Path.{sym, _∙_, subst}
-use Rattle.lexer.proofs.PartLaws.{PartIs, part-holds, part-same}
+use mathlib.Core.Path.{_∙_}
+use Rattle.lexer.proofs.PartLaws.{part-is, part-same}
 use borrow.Author.Needs.{needs}
 use Rattle.lexer.proofs.token.content_is.Statement.{statement}
 use Rattle.lexer.proofs.token.content_is.Tie as tie
@@ -13,13 +13,13 @@ part-of-requires : tie.Need-part-of-requires
 part-of-requires c κs = search needs
 
 sub-same-content : tie.Need-sub-same-content
-sub-same-content c = let i = subst (PartIs (c .before .before .before .args .sw) (c .before .before .before .args .token .now)) (sym (c .part-of .ensures)) (part-holds (c .before .before .before .args .sw) (c .before .before .before .args .token .now) (c .before .before .before .pre)) in omega arith
+sub-same-content c = let i = part-is (c .before .before .before .args .sw) (c .before .before .before .args .token .now) (c .part-of .result) (c .before .before .before .pre) (c .part-of .ensures) in omega arith
 
 part-same-content-start : tie.Need-part-same-content-start
-part-same-content-start c = let i = subst (PartIs (c .before .before .before .args .sw) (c .before .before .before .args .token .now)) (sym (c .part-of .ensures)) (part-holds (c .before .before .before .args .sw) (c .before .before .before .args .token .now) (c .before .before .before .pre)) in omega arith
+part-same-content-start c = let i = part-is (c .before .before .before .args .sw) (c .before .before .before .args .token .now) (c .part-of .result) (c .before .before .before .pre) (c .part-of .ensures) in omega arith
 
 part-same-content-end : tie.Need-part-same-content-end
-part-same-content-end c = let i = subst (PartIs (c .before .before .before .args .sw) (c .before .before .before .args .token .now)) (sym (c .part-of .ensures)) (part-holds (c .before .before .before .args .sw) (c .before .before .before .args .token .now) (c .before .before .before .pre)) in omega arith
+part-same-content-end c = let i = part-is (c .before .before .before .args .sw) (c .before .before .before .args .token .now) (c .part-of .result) (c .before .before .before .pre) (c .part-of .ensures) in omega arith
 
 same-content-requires : tie.Need-same-content-requires
 same-content-requires c κs = search needs

@@ -1,6 +1,6 @@
 use native.Mathlib.Omega.{arith}
-use mathlib.Core.Path.{sym, _∙_, subst}
-use Rattle.lexer.proofs.PartLaws.{PartIs, keyed-by, no-key, part-holds}
+use mathlib.Core.Path.{sym, _∙_}
+use Rattle.lexer.proofs.PartLaws.{keyed-by, no-key, part-is}
 use borrow.Author.Needs.{needs}
 use Rattle.lexer.proofs.token.put_token.Statement.{statement}
 use Rattle.lexer.proofs.token.put_token.Tie as tie
@@ -17,13 +17,13 @@ part-of-requires : tie.Need-part-of-requires
 part-of-requires c κs = search needs
 
 sub-write-content : tie.Need-sub-write-content
-sub-write-content c = let i = subst (PartIs (c .before .before .before .before .before .args .sw) (c .before .before .before .before .before .args .token .now)) (sym (c .part-of .ensures)) (part-holds (c .before .before .before .before .before .args .sw) (c .before .before .before .before .before .args .token .now) (keyed-by (c .before .before .before .before .before .args .sw) (c .before .before .before .before .before .args .token .now) (sym (c .before .before .is-keyed .ensures) ∙ c .before .if1 .taken))) in omega arith
+sub-write-content c = let i = part-is (c .before .before .before .before .before .args .sw) (c .before .before .before .before .before .args .token .now) (c .part-of .result) (keyed-by (c .before .before .before .before .before .args .sw) (c .before .before .before .before .before .args .token .now) (sym (c .before .before .is-keyed .ensures) ∙ c .before .if1 .taken)) (c .part-of .ensures) in omega arith
 
 part-write-content-start : tie.Need-part-write-content-start
-part-write-content-start c = let i = subst (PartIs (c .before .before .before .before .before .args .sw) (c .before .before .before .before .before .args .token .now)) (sym (c .part-of .ensures)) (part-holds (c .before .before .before .before .before .args .sw) (c .before .before .before .before .before .args .token .now) (keyed-by (c .before .before .before .before .before .args .sw) (c .before .before .before .before .before .args .token .now) (sym (c .before .before .is-keyed .ensures) ∙ c .before .if1 .taken))) in omega arith
+part-write-content-start c = let i = part-is (c .before .before .before .before .before .args .sw) (c .before .before .before .before .before .args .token .now) (c .part-of .result) (keyed-by (c .before .before .before .before .before .args .sw) (c .before .before .before .before .before .args .token .now) (sym (c .before .before .is-keyed .ensures) ∙ c .before .if1 .taken)) (c .part-of .ensures) in omega arith
 
 part-write-content-end : tie.Need-part-write-content-end
-part-write-content-end c = let i = subst (PartIs (c .before .before .before .before .before .args .sw) (c .before .before .before .before .before .args .token .now)) (sym (c .part-of .ensures)) (part-holds (c .before .before .before .before .before .args .sw) (c .before .before .before .before .before .args .token .now) (keyed-by (c .before .before .before .before .before .args .sw) (c .before .before .before .before .before .args .token .now) (sym (c .before .before .is-keyed .ensures) ∙ c .before .if1 .taken))) in omega arith
+part-write-content-end c = let i = part-is (c .before .before .before .before .before .args .sw) (c .before .before .before .before .before .args .token .now) (c .part-of .result) (keyed-by (c .before .before .before .before .before .args .sw) (c .before .before .before .before .before .args .token .now) (sym (c .before .before .is-keyed .ensures) ∙ c .before .if1 .taken)) (c .part-of .ensures) in omega arith
 
 write-content-requires : tie.Need-write-content-requires
 write-content-requires c κs = search needs
@@ -32,8 +32,7 @@ same-length : tie.Need-same-length
 same-length c = omega arith
 
 returns : tie.Need-returns
-returns c = let i = subst (PartIs (c .before .before .before .before .before .before .before .before .before .before .args .sw) (c .before .before .before .before .before .before .before .before .before .before .args .token .now)) (sym (c .before .before .before .before .before .part-of .ensures)) (part-holds (c .before .before .before .before .before .before .before .before .before .before .args .sw) (c .before .before .before .before .before .before .before .before .before .before .args .token .now) (keyed-by (c .before .before .before .before .before .before .before .before .before .before .args .sw) (c .before .before .before .before .before .before .before .before .before .before .args .token .now) (sym (c .before .before .before .before .before .before .before .is-keyed .ensures) ∙ c .before .before .before .before .before .before .if1 .taken))) in
-    rw (← i .holds) (c .before .before .write-content .ensures)
+returns c = let i = part-is (c .before .before .before .before .before .before .before .before .before .before .args .sw) (c .before .before .before .before .before .before .before .before .before .before .args .token .now) (c .before .before .before .before .before .part-of .result) (keyed-by (c .before .before .before .before .before .before .before .before .before .before .args .sw) (c .before .before .before .before .before .before .before .before .before .before .args .token .now) (sym (c .before .before .before .before .before .before .before .is-keyed .ensures) ∙ c .before .before .before .before .before .before .if1 .taken)) (c .before .before .before .before .before .part-of .ensures) in rw (← i .holds) (c .before .before .write-content .ensures)
 
 returns-2 : tie.Need-returns-2
 returns-2 c = no-key _ _ (sym (c .before .is-keyed .ensures) ∙ c .if1 .left)
