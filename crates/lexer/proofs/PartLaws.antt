@@ -37,7 +37,7 @@ use Rattle.lexer.specs.Closing.{closing, block, notNewline}
 use Rattle.lexer.specs.Token.{Form, mark, word, text, bytes, integer, decimal, Item, gap, token, fault, blockItem, comment, contentItem, closedItem, hasEscapes, stringItem, stringForm, wordItem, meantItem, numberItem, itemOf, item, itemAt, keyContent, wholeItem, tokenContent}
 use Rattle.lexer.specs.Opening.{openingOf, openedItem, wordPart, openedPart, partOf}
 use Rattle.lexer.specs.Answer.{kindOf, found, foundAt}
-use Rattle.lexer.specs.Internal.{isKeyKind, hasContent, Keyed}
+use Rattle.lexer.specs.Internal.{holdsContent, hasContent, Keyed}
 use Rattle.lexer.proofs.ClosingLaws.{closed-within}
 use Rattle.lexer.proofs.OpeningLaws.{head-within, mayOpen, opening-item, opening-none}
 use Rattle.lexer.proofs.NextLaws.{found-token, item-there}
@@ -239,8 +239,8 @@ isToken (F.Token k e) = true
 isToken (F.Refused n) = false
 isToken F.Nothing = false
 
-kind-content : (form : Form) → hasContent (keyContent form) ≡ isKeyKind (kindOf form)
-unfolding hasContent keyContent isKeyKind kindOf
+kind-content : (form : Form) → hasContent (keyContent form) ≡ holdsContent (kindOf form)
+unfolding hasContent keyContent holdsContent kindOf
 kind-content (mark b) = refl
 kind-content (word s) = refl
 kind-content (text s) = refl
@@ -281,12 +281,12 @@ module _ (sw : Switches) where
         ap (wholeItem (length l)) (g .2) ∙ ap (λ (n : ℕ). cond (eqb (g .1) n) (keyContent (g .0)) none) j,
       )
 
-  pub token-all : (s : List ℕ) (k : TokenKind) (e : ℕ) → foundAt sw s 0 ≡ F.Token k e → e ≡ length s → isKeyKind k ≡ hasContent (tokenContent sw s)
+  pub token-all : (s : List ℕ) (k : TokenKind) (e : ℕ) → foundAt sw s 0 ≡ F.Token k e → e ≡ length s → holdsContent k ≡ hasContent (tokenContent sw s)
   token-all s k e q h =
       let w = whole-token s k e q in
       let m = w .3 in
       let j : w .1 ≡ length s - 1 = omega arith in
-      sym (ap hasContent (w .5 ∙ ap (λ (t : Bool). cond t (keyContent (w .0)) none) (eq-eqb (w .1) (length s - 1) j)) ∙ kind-content (w .0) ∙ ap isKeyKind (w .2))
+      sym (ap hasContent (w .5 ∙ ap (λ (t : Bool). cond t (keyContent (w .0)) none) (eq-eqb (w .1) (length s - 1) j)) ∙ kind-content (w .0) ∙ ap holdsContent (w .2))
 
   pub token-short : (s : List ℕ) (k : TokenKind) (e : ℕ) → foundAt sw s 0 ≡ F.Token k e → (e ≡ length s → ⊥) → false ≡ hasContent (tokenContent sw s)
   unfolding hasContent

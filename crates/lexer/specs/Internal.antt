@@ -51,14 +51,23 @@ stringFound isText end (some content) = F.Token (kindOf (stringForm isText conte
 
 -- ---- a token by itself
 
+-- a key's token: "any word of the shape, or a text string"
+unfoldable pub isKey : TokenKind → Bool
+isKey (K.Mark b) = false
+isKey K.Word = true
+isKey (K.Text n) = true
+isKey (K.Bytes n) = false
+isKey (K.Integer z) = false
+isKey (K.Decimal minus m p) = false
+
 -- a string or key may be a word, a text or bytes
-unfoldable pub isKeyKind : TokenKind → Bool
-isKeyKind (K.Mark b) = false
-isKeyKind K.Word = true
-isKeyKind (K.Text n) = true
-isKeyKind (K.Bytes n) = true
-isKeyKind (K.Integer z) = false
-isKeyKind (K.Decimal minus m p) = false
+unfoldable pub holdsContent : TokenKind → Bool
+holdsContent (K.Mark b) = false
+holdsContent K.Word = true
+holdsContent (K.Text n) = true
+holdsContent (K.Bytes n) = true
+holdsContent (K.Integer z) = false
+holdsContent (K.Decimal minus m p) = false
 
 -- there is a content
 unfoldable pub hasContent : Option (List ℕ) → Bool

@@ -4,8 +4,9 @@ ghost use lib.ListN.{length};
 ghost use Rattle.literals.specs.Content.{content, fitted, placed, sameContent};
 ghost use Rattle.lexer.specs.Token.{tokenContent};
 ghost use Rattle.lexer.specs.Opening.{wordPart, partOf};
-ghost use Rattle.lexer.specs.Internal.{isKeyKind, hasContent, Keyed};
+ghost use Rattle.lexer.specs.Internal.{isKey, holdsContent, hasContent, Keyed};
 use super::item::Found;
+use super::item::Token;
 use super::item::TokenKind;
 use super::item::item_at;
 use super::opening::Opening;
@@ -62,10 +63,30 @@ fn word_part(token: &[u8]) -> Part
     }
 }
 
-// ---- contents
+// ---- kinds of tokens
 
-fn is_key_kind(kind: TokenKind) -> bool
-    ensures { λ r. ⌜ r ≡ isKeyKind kind ⌝ }
+// Whether a token may be a key: "any word of the shape, or a text string".
+pub fn is_key(token: Token) -> bool
+    ensures { λ r. ⌜ r ≡ isKey (token .kind) ⌝ }
+{
+    let kind = token.kind;
+    match kind {
+        TokenKind::Mark(_) => false,
+        TokenKind::Word => true,
+        TokenKind::Text(_) => true,
+        TokenKind::Bytes(_) => false,
+        TokenKind::Integer(_) => false,
+        TokenKind::Decimal {
+            minus: _,
+            m: _,
+            p: _,
+        } => false,
+    }
+}
+
+// Whether a token is a string or key: a word, a text or bytes.
+fn holds_content(kind: TokenKind) -> bool
+    ensures { λ r. ⌜ r ≡ holdsContent kind ⌝ }
 {
     match kind {
         TokenKind::Mark(_) => false,
@@ -81,6 +102,8 @@ fn is_key_kind(kind: TokenKind) -> bool
     }
 }
 
+// ---- contents
+
 // Whether the bytes are one string or key. Public for the crates above only, which show so what `content_is` asks, and that a part holds the content.
 pub fn is_keyed(sw: Switches, token: &[u8]) -> bool
     ensures { λ r. ⌜ r ≡ hasContent (tokenContent sw (now (token .entry))) ⌝ }
@@ -89,7 +112,7 @@ pub fn is_keyed(sw: Switches, token: &[u8]) -> bool
         Found::Gap(_) => false,
         Found::Token(kind, end) => {
             if end == token.len() {
-                return is_key_kind(kind);
+                return holds_content(kind);
             }
             false
         }

@@ -16,6 +16,7 @@ use Rattle.lexer.specs.Token as L
 use Rattle.lexer.specs.Token.{Form, tokenContent, keyContent}
 use Rattle.lexer.specs.Answer.{kindOf}
 use Rattle.lexer.proofs.AloneLaws.{token-alone}
+use Rattle.lexer.specs.Internal.{isKey}
 use Rattle.reader.specs.declared.tree.Kind.{Kind}
 use Rattle.reader.specs.declared.tree.Kind.the-variants.{Object}
 use Rattle.reader.specs.declared.tree.Limits.{Limits}
@@ -35,7 +36,7 @@ use Rattle.reader.specs.Reading.{maxText}
 use Rattle.reader.specs.Syntax.{Label, Frame, frame, lone, after, more, value, inside, colon, config, go, spanOf, isMark, isObject, closer, keyOf, headBy, ended, refuseIf, holds, keyStep, emptyByComma, childStep, modeStep, step, refused, atEnd}
 use Rattle.reader.specs.Internal.Tokens.{formAt, tokenAt, TokenAt}
 use Rattle.reader.specs.Internal.Values
-use Rattle.reader.specs.Internal.Ahead.{markIs, isKey, closerByte, aheadAt, onlyAt, aheadAfter, keyedItem, followsBy, followsAt}
+use Rattle.reader.specs.Internal.Ahead.{markIs, closerByte, aheadAt, onlyAt, aheadAfter, keyedItem, followsBy, followsAt}
 use Rattle.reader.specs.Internal.Values.{spanAt, runFrom, openedHere, KeyHere, FoundKey, slotOf, innerAt, Known, Look, Valued, Ends, Refuses, ItemIs, ElementAt}
 use Rattle.reader.proofs.StepRun.{Peeked, Marked, Wants, NotMarked, not-mark, peek-go, peek-refuse, mark-go, is-mark, ahead-token, ahead-refuses, only-at, only-not, past-token, past-refuses, closer-mark, close-step, comma-step, after-step, lone-step, lone-wants, child-step, value-opens, child-opens, item-closes}
 

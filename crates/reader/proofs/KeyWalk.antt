@@ -15,7 +15,7 @@ use Rattle.literals.specs.declared.decoder.Body.{Body}
 use Rattle.literals.specs.Content.{content, sameContent}
 use Rattle.lexer.specs.declared.token.Part.{Part}
 use Rattle.lexer.specs.Opening.{partOf}
-use Rattle.lexer.proofs.PartLaws.{PartIs, part-holds}
+use Rattle.lexer.proofs.PartLaws.{PartIs, part-is}
 use Rattle.lexer.specs.Token.{tokenContent}
 use Rattle.lexer.specs.Internal.{Keyed}
 use Rattle.reader.specs.Tree.{nodeWords}
@@ -111,7 +111,7 @@ same-by sw s a e v body t w r p q h = h ∙ (λ i. sameContent (p .holds i) (q i
 
 -- where the content of a key stands
 pub key-part : (sw : Switches) (s : List ℕ) (a e : ℕ) (w : List ℕ) → KeyAt sw s a e w → (p : Part) → p ≡ partOf sw (bytesAt s a e) → PartIs sw (bytesAt s a e) p
-key-part sw s a e w k p q = subst (PartIs sw (bytesAt s a e)) (sym q) (part-holds sw (bytesAt s a e) (record { content = w; is = k .holds }))
+key-part sw s a e w k p q = part-is sw (bytesAt s a e) p (record { content = w; is = k .holds }) q
 
 pub keyed : (sw : Switches) (s : List ℕ) (a e : ℕ) (w : List ℕ) → KeyAt sw s a e w → Keyed sw (bytesAt s a e)
 keyed sw s a e w k = record { content = w; is = k .holds }

@@ -12,7 +12,6 @@ ghost use Rattle.reader.specs.Internal.Ahead.{
   keyedItem,
   followsAt,
   markIs,
-  isKey,
   closerByte,
 };
 ghost use Rattle.reader.specs.Internal.Values.{Look, ItemAt, ElementAt};
@@ -23,6 +22,7 @@ use lexer::item::Next;
 use lexer::item::Token;
 use lexer::item::TokenKind;
 use lexer::item::next_token;
+use lexer::token::is_key;
 use text::refusal::DUPLICATE_KEY;
 use text::refusal::Refusal;
 use text::refusal::UNEXPECTED;
@@ -65,24 +65,6 @@ fn is_mark(token: Token, b: u8) -> bool
         TokenKind::Mark(c) => c == b,
         TokenKind::Word => false,
         TokenKind::Text(_) => false,
-        TokenKind::Bytes(_) => false,
-        TokenKind::Integer(_) => false,
-        TokenKind::Decimal {
-            minus: _,
-            m: _,
-            p: _,
-        } => false,
-    }
-}
-
-fn is_key(token: Token) -> bool
-    ensures { λ r. ⌜ r ≡ isKey (token .kind) ⌝ }
-{
-    let kind = token.kind;
-    match kind {
-        TokenKind::Mark(_) => false,
-        TokenKind::Word => true,
-        TokenKind::Text(_) => true,
         TokenKind::Bytes(_) => false,
         TokenKind::Integer(_) => false,
         TokenKind::Decimal {

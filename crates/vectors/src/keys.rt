@@ -2,28 +2,12 @@
 ghost use Prim.Native.Nat.{_≤_};
 ghost use lib.ListN.{length};
 use lexer::item::Next;
-use lexer::item::TokenKind;
 use lexer::item::next_token;
 use lexer::token::content_is;
+use lexer::token::is_key;
 use lexer::token::is_keyed;
 use lexer::token::part_of;
 use text::switches::present;
-
-// A key is a word or a text string.
-fn is_key(kind: TokenKind) -> bool {
-    match kind {
-        TokenKind::Mark(_) => false,
-        TokenKind::Word => true,
-        TokenKind::Text(_) => true,
-        TokenKind::Bytes(_) => false,
-        TokenKind::Integer(_) => false,
-        TokenKind::Decimal {
-            minus: _,
-            m: _,
-            p: _,
-        } => false,
-    }
-}
 
 fn no_keys() {
     super::show::line(b"no keys");
@@ -36,9 +20,9 @@ fn answer(a: &[u8], b: &[u8]) {
         if is_keyed(sw, b) {
             let part = part_of(sw, b);
             let body = part.body;
-            let from = part.from;
-            let to = part.to;
-            if content_is(sw, a, body, &b[from..to]) {
+            let start = part.span.start;
+            let stop = part.span.stop;
+            if content_is(sw, a, body, &b[start..stop]) {
                 super::show::line(b"same");
                 return;
             }
@@ -54,35 +38,33 @@ fn second(key: &[u8], text: &[u8], at: usize)
     requires { ⌜ at ≤ length (now text) ⌝ }
 {
     match next_token(present(), text, at) {
-        Next::Token { kind, start, end } => {
-            if is_key(kind) {
-                answer(key, &text[start..end]);
+        Next::Token(token) => {
+            if is_key(token) {
+                let start = token.span.start;
+                let stop = token.span.stop;
+                answer(key, &text[start..stop]);
                 return;
             }
             no_keys();
         }
         Next::End(_) => no_keys(),
-        Next::Fault {
-            number: _,
-            place: _,
-        } => no_keys(),
+        Next::Refused(_) => no_keys(),
     }
 }
 
 // The first two tokens of a text.
 pub fn compare(text: &[u8]) {
     match next_token(present(), text, 0) {
-        Next::Token { kind, start, end } => {
-            if is_key(kind) {
-                second(&text[start..end], text, end);
+        Next::Token(token) => {
+            if is_key(token) {
+                let start = token.span.start;
+                let stop = token.span.stop;
+                second(&text[start..stop], text, stop);
                 return;
             }
             no_keys();
         }
         Next::End(_) => no_keys(),
-        Next::Fault {
-            number: _,
-            place: _,
-        } => no_keys(),
+        Next::Refused(_) => no_keys(),
     }
 }

@@ -10,8 +10,8 @@ mod keys;
 mod show;
 mod tokens;
 
-use lexer::item::byte_at;
 use libc::STDIN_FILENO;
+use text::bytes::byte_at;
 
 // The value of a capital hex digit; a case has no other.
 fn nibble(b: u8) -> u8

@@ -7,17 +7,20 @@ pub fn tokens(text: &[u8]) {
     let mut at = 0;
     while at <= text.len() {
         match next_token(sw, text, at) {
-            Next::Token { kind, start, end } => {
-                super::show::token(kind, &text[start..end]);
-                super::show::places(start, end);
-                at = end;
+            Next::Token(token) => {
+                let kind = token.kind;
+                let start = token.span.start;
+                let stop = token.span.stop;
+                super::show::token(kind, &text[start..stop]);
+                super::show::places(start, stop);
+                at = stop;
             }
             Next::End(place) => {
                 super::show::end(place);
                 return;
             }
-            Next::Fault { number, place } => {
-                super::show::refused(number, place);
+            Next::Refused(refusal) => {
+                super::show::refused(refusal.number, refusal.place);
                 return;
             }
         }

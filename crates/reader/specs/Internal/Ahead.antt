@@ -40,15 +40,6 @@ markIs (K.Decimal minus m p) c = false
 abbrev pub closerByte : Kind → ℕ
 closerByte kind = code (closer kind)
 
--- a key's token: "any word of the shape, or a text string"
-unfoldable pub isKey : TokenKind → Bool
-isKey (K.Mark b) = false
-isKey K.Word = true
-isKey (K.Text n) = true
-isKey (K.Bytes n) = false
-isKey (K.Integer z) = false
-isKey (K.Decimal minus m p) = false
-
 -- ---- the next token
 
 -- the next token, or a refusal

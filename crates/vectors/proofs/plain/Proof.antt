@@ -1,3 +1,4 @@
+-- made by tools/proof.py from answers/plain (answers 89fff7c18dee, proof 3aa10c1b5c3d): edit that file, not this one
 use borrow.Author.Needs.{needs}
 use native.Mathlib.Omega.{arith}
 use mathlib.Core.Path.{_≡_}
@@ -5,12 +6,6 @@ use Prim.Native.Nat.{_-_}
 use lib.ListN.{length, length-set}
 use Rattle.vectors.proofs.plain.Statement.{statement}
 use Rattle.vectors.proofs.plain.Tie as tie
-use Rattle.vectors.proofs.plain.Reads as reads
-use Rattle.vectors.proofs.plain.Lts as lts
-use Rattle.lexer.proofs.item.byte_at.Reads as byte-at-reads
-use Rattle.vectors.proofs.five_digits.Reads as five-digits-reads
-use Rattle.vectors.proofs.pair.Reads as pair-reads
-use Rattle.vectors.proofs.repeat.Reads as repeat-reads
 
 abbrev Inv-loop : tie.InvT-loop
 Inv-loop case out₀ i₀ k₀ out i k = length out ≡ length out₀
@@ -113,38 +108,7 @@ returns-2 c = search needs
 
 pub plain-spec : {M : Type 1} → statement M
 plain-spec =
-    tie.close
-    (tie.spec
-    Inv-loop
-    μ-loop
-    loop-holds
-    same-length
-    returns
-    shared-slice-read-b
-    slice-write-out
-    add-k
-    add-i
-    loop-less
-    loop-again
-    add-byte-at
-    byte-at-requires
-    add-byte-at-2
-    byte-at-requires-2
-    add-five-digits
-    five-digits-requires
-    repeat-requires
-    add-i-2
-    loop-less-2
-    loop-again-2
-    add-byte-at-3
-    byte-at-requires-3
-    add-byte-at-4
-    byte-at-requires-4
-    pair-requires
-    slice-write-out-2
-    add-k-2
-    add-i-3
-    loop-less-3
-    loop-again-3
-    same-length-2
-    returns-2)
+    tie.close (tie.spec Inv-loop μ-loop loop-holds same-length returns shared-slice-read-b slice-write-out add-k add-i
+    loop-less loop-again add-byte-at byte-at-requires add-byte-at-2 byte-at-requires-2 add-five-digits
+    five-digits-requires repeat-requires add-i-2 loop-less-2 loop-again-2 add-byte-at-3 byte-at-requires-3 add-byte-at-4
+    byte-at-requires-4 pair-requires slice-write-out-2 add-k-2 add-i-3 loop-less-3 loop-again-3 same-length-2 returns-2)

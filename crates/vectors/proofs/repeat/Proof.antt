@@ -1,11 +1,10 @@
+-- made by tools/proof.py from answers/repeat (answers 4a46953d45bc, proof fb7d147f2d57): edit that file, not this one
 use borrow.Author.Needs.{needs}
 use native.Mathlib.Omega.{arith}
 use mathlib.Core.Path.{_≡_}
 use lib.ListN.{length, length-set}
 use Rattle.vectors.proofs.repeat.Statement.{statement}
 use Rattle.vectors.proofs.repeat.Tie as tie
-use Rattle.vectors.proofs.repeat.Reads as reads
-use Rattle.vectors.proofs.repeat.Lts as lts
 
 abbrev Inv-loop : tie.InvT-loop
 Inv-loop b count out₀ from left₀ k₀ out left k = length out ≡ length out₀
@@ -45,17 +44,5 @@ returns-2 c = search needs
 
 pub repeat-spec : {M : Type 1} → statement M
 repeat-spec =
-    tie.close
-    (tie.spec
-    Inv-loop
-    μ-loop
-    loop-holds
-    same-length
-    returns
-    slice-write-out
-    add-k
-    sub-left
-    loop-less
-    loop-again
-    same-length-2
-    returns-2)
+    tie.close (tie.spec Inv-loop μ-loop loop-holds same-length returns slice-write-out add-k sub-left loop-less
+    loop-again same-length-2 returns-2)

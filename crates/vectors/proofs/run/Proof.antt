@@ -1,17 +1,10 @@
+-- made by tools/proof.py from answers/run (answers 812bbb037d3a, proof d97874700b37): edit that file, not this one
+use borrow.Author.Needs.{needs}
 use native.Mathlib.Omega.{arith}
 use mathlib.Core.Path.{sym}
 use lib.Seq.{length-take-le}
-use borrow.Author.Needs.{needs}
 use Rattle.vectors.proofs.run.Statement.{statement}
 use Rattle.vectors.proofs.run.Tie as tie
-use Rattle.vectors.proofs.run.Reads as reads
-use Rattle.vectors.proofs.run.Lts as lts
-use Rattle.text.proofs.utf8.check_utf8.Reads as check-utf8-reads
-use Rattle.vectors.proofs.keys.compare.Reads as compare-reads
-use Rattle.vectors.proofs.plain.Reads as plain-reads
-use Rattle.vectors.proofs.show.front.Reads as front-reads
-use Rattle.vectors.proofs.show.line.Reads as line-reads
-use Rattle.vectors.proofs.tokens.tokens.Reads as tokens-reads
 
 slice-aggregate-line : tie.Need-slice-aggregate-line
 slice-aggregate-line c = omega arith
@@ -84,28 +77,8 @@ returns-5 c = search needs
 
 pub run-spec : {M : Type 1} → statement M
 run-spec =
-    tie.close
-    (tie.spec
-    slice-aggregate-line
-    line-requires
-    returns
-    sub-plain
-    part-plain-start
-    part-plain-end
-    slice-aggregate-plain
-    plain-requires
-    returns-2
-    shared-slice-read-mode
-    array-share-prefix-space
-    slice-aggregate-tokens
-    tokens-requires
-    returns-3
-    array-share-prefix-space-2
-    slice-aggregate-check-utf8
-    check-utf8-requires
-    front-requires
-    returns-4
-    array-share-prefix-space-3
-    slice-aggregate-compare
-    compare-requires
+    tie.close (tie.spec slice-aggregate-line line-requires returns sub-plain part-plain-start part-plain-end
+    slice-aggregate-plain plain-requires returns-2 shared-slice-read-mode array-share-prefix-space
+    slice-aggregate-tokens tokens-requires returns-3 array-share-prefix-space-2 slice-aggregate-check-utf8
+    check-utf8-requires front-requires returns-4 array-share-prefix-space-3 slice-aggregate-compare compare-requires
     returns-5)

@@ -1,12 +1,10 @@
+-- made by tools/proof.py from answers/run_all (answers 0c11f0cdf27b, proof 51f13e0c6158): edit that file, not this one
 use borrow.Author.Needs.{needs}
 use native.Mathlib.Omega.{arith}
 use Prim.Native.Nat.{_≤_, _-_}
 use lib.ListN.{length}
 use Rattle.vectors.proofs.run_all.Statement.{statement}
 use Rattle.vectors.proofs.run_all.Tie as tie
-use Rattle.vectors.proofs.run_all.Reads as reads
-use Rattle.vectors.proofs.run_all.Lts as lts
-use Rattle.vectors.proofs.run.Reads as run-reads
 
 abbrev Inv-loop : tie.InvT-loop
 Inv-loop s from₀ i₀ from i = from ≤ i
@@ -52,19 +50,5 @@ returns c = search needs
 
 pub run-all-spec : {M : Type 1} → statement M
 run-all-spec =
-    tie.close
-    (tie.spec
-    Inv-loop
-    μ-loop
-    loop-holds
-    add-i
-    shared-slice-read-if1
-    sub-run
-    part-run-start
-    part-run-end
-    run-requires
-    loop-less
-    loop-again
-    loop-less-2
-    loop-again-2
-    returns)
+    tie.close (tie.spec Inv-loop μ-loop loop-holds add-i shared-slice-read-if1 sub-run part-run-start part-run-end
+    run-requires loop-less loop-again loop-less-2 loop-again-2 returns)

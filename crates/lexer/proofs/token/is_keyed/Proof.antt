@@ -7,7 +7,7 @@ use Rattle.lexer.proofs.token.is_keyed.Tie as tie
 use Rattle.lexer.proofs.token.is_keyed.Reads as reads
 use Rattle.lexer.proofs.token.is_keyed.Lts as lts
 use Rattle.lexer.proofs.item.item_at.Reads as item-at-reads
-use Rattle.lexer.proofs.token.is_key_kind.Reads as is-key-kind-reads
+use Rattle.lexer.proofs.token.holds_content.Reads as holds-content-reads
 
 item-at-requires : tie.Need-item-at-requires
 item-at-requires c κs = search needs
@@ -18,11 +18,11 @@ enum-told c = search needs
 enum-known-kind : tie.Need-enum-known-kind
 enum-known-kind c = search needs
 
-is-key-kind-requires : tie.Need-is-key-kind-requires
-is-key-kind-requires c κs = search needs
+holds-content-requires : tie.Need-holds-content-requires
+holds-content-requires c κs = search needs
 
 returns : tie.Need-returns
-returns c = c .is-key-kind .ensures ∙ token-all (c .before .before .before .before .before .before .before .args .sw) (c .before .before .before .before .before .before .before .args .token .now) (c .before .before .before .kind .given .0 .0) (c .before .before .before .kind .given .0 .1 .0) (sym (c .before .before .before .before .before .item-at .ensures) ∙ c .before .before .before .kind .given .1) (c .before .if1 .taken)
+returns c = c .holds-content .ensures ∙ token-all (c .before .before .before .before .before .before .before .args .sw) (c .before .before .before .before .before .before .before .args .token .now) (c .before .before .before .kind .given .0 .0) (c .before .before .before .kind .given .0 .1 .0) (sym (c .before .before .before .before .before .item-at .ensures) ∙ c .before .before .before .kind .given .1) (c .before .if1 .taken)
 
 enum-told-2 : tie.Need-enum-told-2
 enum-told-2 c = search needs
@@ -52,7 +52,7 @@ is-keyed-spec =
     item-at-requires
     enum-told
     enum-known-kind
-    is-key-kind-requires
+    holds-content-requires
     returns
     enum-told-2
     enum-told-3

@@ -1,17 +1,10 @@
+-- made by tools/proof.py from answers/keys/answer (answers d94e6f500306, proof f0b5802cdc0b): edit that file, not this one
+use borrow.Author.Needs.{needs}
 use native.Mathlib.Omega.{arith}
 use mathlib.Core.Path.{sym, _∙_}
-use Rattle.lexer.proofs.PartLaws.{keyed-by}
-use borrow.Author.Needs.{needs}
+use Rattle.lexer.proofs.PartLaws.{keyed-by, part-is}
 use Rattle.vectors.proofs.keys.answer.Statement.{statement}
 use Rattle.vectors.proofs.keys.answer.Tie as tie
-use Rattle.vectors.proofs.keys.answer.Reads as reads
-use Rattle.vectors.proofs.keys.answer.Lts as lts
-use Rattle.lexer.proofs.token.content_is.Reads as content-is-reads
-use Rattle.lexer.proofs.token.is_keyed.Reads as is-keyed-reads
-use Rattle.lexer.proofs.token.part_of.Reads as part-of-reads
-use Rattle.text.proofs.switches.present.Reads as present-reads
-use Rattle.vectors.proofs.keys.no_keys.Reads as no-keys-reads
-use Rattle.vectors.proofs.show.line.Reads as line-reads
 
 present-requires : tie.Need-present-requires
 present-requires c κs = search needs
@@ -23,16 +16,16 @@ is-keyed-requires-2 : tie.Need-is-keyed-requires-2
 is-keyed-requires-2 c κs = search needs
 
 part-of-requires : tie.Need-part-of-requires
-part-of-requires c κs = keyed-by _ (c .before .before .before .before .before .before .before .args .b .now) (sym (c .before .is-keyed2 .ensures) ∙ c .if2 .taken)
+part-of-requires c κs = search needs
 
 sub-content-is : tie.Need-sub-content-is
-sub-content-is c = let f = c .part-of .ensures .forward in omega arith
+sub-content-is c = let p = part-is _ _ _ (keyed-by _ (c .before .before .before .before .before .before .before .before .args .b .now) (sym (c .before .before .is-keyed2 .ensures) ∙ c .before .if2 .taken)) (c .part-of .ensures) in let f = p .forward in omega arith
 
 part-content-is-start : tie.Need-part-content-is-start
-part-content-is-start c = let f = c .part-of .ensures .forward in let i = c .part-of .ensures .inside in omega arith
+part-content-is-start c = let p = part-is _ _ _ (keyed-by _ (c .before .before .before .before .before .before .before .before .args .b .now) (sym (c .before .before .is-keyed2 .ensures) ∙ c .before .if2 .taken)) (c .part-of .ensures) in let f = p .forward in let i = p .inside in omega arith
 
 part-content-is-end : tie.Need-part-content-is-end
-part-content-is-end c = let f = c .part-of .ensures .forward in let i = c .part-of .ensures .inside in omega arith
+part-content-is-end c = let p = part-is _ _ _ (keyed-by _ (c .before .before .before .before .before .before .before .before .args .b .now) (sym (c .before .before .is-keyed2 .ensures) ∙ c .before .if2 .taken)) (c .part-of .ensures) in let f = p .forward in let i = p .inside in omega arith
 
 content-is-requires : tie.Need-content-is-requires
 content-is-requires c κs = keyed-by _ (c .before .before .before .before .before .before .before .before .before .args .a .now) (sym (c .before .before .before .before .before .is-keyed .ensures) ∙ c .before .before .before .before .if1 .taken)
@@ -63,21 +56,6 @@ returns-3 c = search needs
 
 pub answer-spec : {M : Type 1} → statement M
 answer-spec =
-    tie.close
-    (tie.spec
-    present-requires
-    is-keyed-requires
-    is-keyed-requires-2
-    part-of-requires
-    sub-content-is
-    part-content-is-start
-    part-content-is-end
-    content-is-requires
-    slice-aggregate-line
-    line-requires
-    returns
-    slice-aggregate-line-2
-    line-requires-2
-    returns-2
-    no-keys-requires
-    returns-3)
+    tie.close (tie.spec present-requires is-keyed-requires is-keyed-requires-2 part-of-requires sub-content-is
+    part-content-is-start part-content-is-end content-is-requires slice-aggregate-line line-requires returns
+    slice-aggregate-line-2 line-requires-2 returns-2 no-keys-requires returns-3)

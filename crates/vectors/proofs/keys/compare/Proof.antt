@@ -1,16 +1,10 @@
+-- made by tools/proof.py from answers/keys/compare (answers be7767be7a7d, proof 20e1103d42f1): edit that file, not this one
+use borrow.Author.Needs.{needs}
 use native.Mathlib.Omega.{arith}
 use mathlib.Core.Path.{sym, _∙_}
 use Rattle.lexer.proofs.NextLaws.{next-ahead}
-use borrow.Author.Needs.{needs}
 use Rattle.vectors.proofs.keys.compare.Statement.{statement}
 use Rattle.vectors.proofs.keys.compare.Tie as tie
-use Rattle.vectors.proofs.keys.compare.Reads as reads
-use Rattle.vectors.proofs.keys.compare.Lts as lts
-use Rattle.lexer.proofs.item.next_token.Reads as next-token-reads
-use Rattle.text.proofs.switches.present.Reads as present-reads
-use Rattle.vectors.proofs.keys.is_key.Reads as is-key-reads
-use Rattle.vectors.proofs.keys.no_keys.Reads as no-keys-reads
-use Rattle.vectors.proofs.keys.second.Reads as second-reads
 
 present-requires : tie.Need-present-requires
 present-requires c κs = search needs
@@ -18,23 +12,31 @@ present-requires c κs = search needs
 next-token-requires : tie.Need-next-token-requires
 next-token-requires c κs = search needs
 
-enum-known-kind : tie.Need-enum-known-kind
-enum-known-kind c = search needs
+enum-known-token : tie.Need-enum-known-token
+enum-known-token c = search needs
 
 is-key-requires : tie.Need-is-key-requires
 is-key-requires c κs = search needs
 
 sub-second : tie.Need-sub-second
-sub-second c = let w = next-ahead (c .before .before .before .before .before .before .present .result) (c .before .before .before .before .before .before .before .before .args .text .now) 0 (c .before .before .before .kind .given .0 .0) (c .before .before .before .kind .given .0 .1 .0) (c .before .before .before .kind .given .0 .1 .1 .0) (omega arith) (sym (c .before .before .before .before .before .next-token .ensures) ∙ c .before .before .before .kind .given .1) in omega arith
+sub-second c =
+    let the-token = c .before .before .before .token in
+    let w = next-ahead (c .before .before .before .before .before .before .present .result) (c .before .before .before .before .before .before .before .before .args .text .now) 0 (the-token .given .0 .0 .kind) (the-token .given .0 .0 .span .start) (the-token .given .0 .0 .span .stop) (omega arith) (sym (c .before .before .before .before .before .next-token .ensures) ∙ the-token .given .1) in omega arith
 
 part-second-start : tie.Need-part-second-start
-part-second-start c = let w = next-ahead (c .before .before .before .before .before .before .present .result) (c .before .before .before .before .before .before .before .before .args .text .now) 0 (c .before .before .before .kind .given .0 .0) (c .before .before .before .kind .given .0 .1 .0) (c .before .before .before .kind .given .0 .1 .1 .0) (omega arith) (sym (c .before .before .before .before .before .next-token .ensures) ∙ c .before .before .before .kind .given .1) in omega arith
+part-second-start c =
+    let the-token = c .before .before .before .token in
+    let w = next-ahead (c .before .before .before .before .before .before .present .result) (c .before .before .before .before .before .before .before .before .args .text .now) 0 (the-token .given .0 .0 .kind) (the-token .given .0 .0 .span .start) (the-token .given .0 .0 .span .stop) (omega arith) (sym (c .before .before .before .before .before .next-token .ensures) ∙ the-token .given .1) in omega arith
 
 part-second-end : tie.Need-part-second-end
-part-second-end c = let w = next-ahead (c .before .before .before .before .before .before .present .result) (c .before .before .before .before .before .before .before .before .args .text .now) 0 (c .before .before .before .kind .given .0 .0) (c .before .before .before .kind .given .0 .1 .0) (c .before .before .before .kind .given .0 .1 .1 .0) (omega arith) (sym (c .before .before .before .before .before .next-token .ensures) ∙ c .before .before .before .kind .given .1) in omega arith
+part-second-end c =
+    let the-token = c .before .before .before .token in
+    let w = next-ahead (c .before .before .before .before .before .before .present .result) (c .before .before .before .before .before .before .before .before .args .text .now) 0 (the-token .given .0 .0 .kind) (the-token .given .0 .0 .span .start) (the-token .given .0 .0 .span .stop) (omega arith) (sym (c .before .before .before .before .before .next-token .ensures) ∙ the-token .given .1) in omega arith
 
 second-requires : tie.Need-second-requires
-second-requires c κs = let w = next-ahead (c .before .before .before .before .before .before .before .present .result) (c .before .before .before .before .before .before .before .before .before .args .text .now) 0 (c .before .before .before .before .kind .given .0 .0) (c .before .before .before .before .kind .given .0 .1 .0) (c .before .before .before .before .kind .given .0 .1 .1 .0) (omega arith) (sym (c .before .before .before .before .before .before .next-token .ensures) ∙ c .before .before .before .before .kind .given .1) in omega arith
+second-requires c κs =
+    let the-token = c .before .before .before .before .token in
+    let w = next-ahead (c .before .before .before .before .before .before .before .present .result) (c .before .before .before .before .before .before .before .before .before .args .text .now) 0 (the-token .given .0 .0 .kind) (the-token .given .0 .0 .span .start) (the-token .given .0 .0 .span .stop) (omega arith) (sym (c .before .before .before .before .before .before .next-token .ensures) ∙ the-token .given .1) in omega arith
 
 returns : tie.Need-returns
 returns c = search needs
@@ -65,22 +67,6 @@ returns-4 c = search needs
 
 pub compare-spec : {M : Type 1} → statement M
 compare-spec =
-    tie.close
-    (tie.spec
-    present-requires
-    next-token-requires
-    enum-known-kind
-    is-key-requires
-    sub-second
-    part-second-start
-    part-second-end
-    second-requires
-    returns
-    no-keys-requires
-    enum-told
-    no-keys-requires-2
-    enum-told-2
-    no-keys-requires-3
-    returns-2
-    returns-3
-    returns-4)
+    tie.close (tie.spec present-requires next-token-requires enum-known-token is-key-requires sub-second
+    part-second-start part-second-end second-requires returns no-keys-requires enum-told no-keys-requires-2 enum-told-2
+    no-keys-requires-3 returns-2 returns-3 returns-4)

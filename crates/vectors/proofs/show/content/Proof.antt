@@ -1,16 +1,10 @@
+-- made by tools/proof.py from answers/show/content (answers a08dcad0b16f, proof 2e62eb4103cc): edit that file, not this one
+use borrow.Author.Needs.{needs}
 use native.Mathlib.Omega.{arith}
 use mathlib.Core.Path.{sym}
 use lib.Seq.{length-take-le}
-use borrow.Author.Needs.{needs}
 use Rattle.vectors.proofs.show.content.Statement.{statement}
 use Rattle.vectors.proofs.show.content.Tie as tie
-use Rattle.vectors.proofs.show.content.Reads as reads
-use Rattle.vectors.proofs.show.content.Lts as lts
-use Rattle.io.proofs.print_decimal.Reads as print-decimal-reads
-use Rattle.io.proofs.write_all.Reads as write-all-reads
-use Rattle.lexer.proofs.token.put_token.Reads as put-token-reads
-use Rattle.text.proofs.switches.present.Reads as present-reads
-use Rattle.vectors.proofs.show.hex.Reads as hex-reads
 
 present-requires : tie.Need-present-requires
 present-requires c κs = search needs
@@ -74,25 +68,7 @@ returns-4 c = search needs
 
 pub content-spec : {M : Type 1} → statement M
 content-spec =
-    tie.close
-    (tie.spec
-    present-requires
-    slice-aggregate-put-token
-    put-token-requires
-    enum-known-n
-    print-decimal-requires
-    slice-aggregate-write-all
-    write-all-requires
-    array-share-prefix-out
-    slice-aggregate-hex
-    hex-requires
-    enum-told
-    slice-aggregate-write-all-2
-    write-all-requires-2
-    enum-told-2
-    slice-aggregate-write-all-3
-    write-all-requires-3
-    returns
-    returns-2
-    returns-3
-    returns-4)
+    tie.close (tie.spec present-requires slice-aggregate-put-token put-token-requires enum-known-n
+    print-decimal-requires slice-aggregate-write-all write-all-requires array-share-prefix-out slice-aggregate-hex
+    hex-requires enum-told slice-aggregate-write-all-2 write-all-requires-2 enum-told-2 slice-aggregate-write-all-3
+    write-all-requires-3 returns returns-2 returns-3 returns-4)

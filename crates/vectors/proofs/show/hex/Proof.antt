@@ -1,12 +1,10 @@
+-- made by tools/proof.py from answers/show/hex (answers dabc710c630e, proof 810579360257): edit that file, not this one
 use borrow.Author.Needs.{needs}
 use native.Mathlib.Omega.{arith}
 use Prim.Native.Nat.{_≤_, _-_}
 use lib.ListN.{length}
 use Rattle.vectors.proofs.show.hex.Statement.{statement}
 use Rattle.vectors.proofs.show.hex.Tie as tie
-use Rattle.vectors.proofs.show.hex.Reads as reads
-use Rattle.vectors.proofs.show.hex.Lts as lts
-use Rattle.vectors.proofs.show.hex_byte.Reads as hex-byte-reads
 
 abbrev Inv-loop : tie.InvT-loop
 Inv-loop s i₀ i-end i = i ≤ length s
@@ -37,14 +35,5 @@ returns c = search needs
 
 pub hex-spec : {M : Type 1} → statement M
 hex-spec =
-    tie.close
-    (tie.spec
-    Inv-loop
-    μ-loop
-    loop-holds
-    shared-slice-read-hex-byte
-    hex-byte-requires
-    add-i
-    loop-less
-    loop-again
-    returns)
+    tie.close (tie.spec Inv-loop μ-loop loop-holds shared-slice-read-hex-byte hex-byte-requires add-i loop-less
+    loop-again returns)

@@ -1,12 +1,9 @@
+-- made by tools/proof.py from answers/show/signed (answers 1efc6d674311, proof bdc792fe86da): edit that file, not this one
+use borrow.Author.Needs.{needs}
 use native.Mathlib.Omega.{arith}
 use Rattle.vectors.proofs.SignedLaws.{upward, down-fits, downward, downward-more}
-use borrow.Author.Needs.{needs}
 use Rattle.vectors.proofs.show.signed.Statement.{statement}
 use Rattle.vectors.proofs.show.signed.Tie as tie
-use Rattle.vectors.proofs.show.signed.Reads as reads
-use Rattle.vectors.proofs.show.signed.Lts as lts
-use Rattle.io.proofs.print_decimal.Reads as print-decimal-reads
-use Rattle.io.proofs.write_all.Reads as write-all-reads
 
 slice-aggregate-write-all : tie.Need-slice-aggregate-write-all
 slice-aggregate-write-all c = omega arith
@@ -40,15 +37,5 @@ returns-2 c = search needs
 
 pub signed-spec : {M : Type 1} → statement M
 signed-spec =
-    tie.close
-    (tie.spec
-    slice-aggregate-write-all
-    write-all-requires
-    sub-k
-    cast-k
-    add-print-decimal
-    print-decimal-requires
-    returns
-    cast-print-decimal
-    print-decimal-requires-2
-    returns-2)
+    tie.close (tie.spec slice-aggregate-write-all write-all-requires sub-k cast-k add-print-decimal
+    print-decimal-requires returns cast-print-decimal print-decimal-requires-2 returns-2)

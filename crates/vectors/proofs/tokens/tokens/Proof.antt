@@ -1,3 +1,4 @@
+-- made by tools/proof.py from answers/tokens/tokens (answers 50bf01ebf5b9, proof 0b9664efb6e6): edit that file, not this one
 use borrow.Author.Needs.{needs}
 use native.Mathlib.Omega.{arith}
 use mathlib.Core.Path.{sym, _∙_}
@@ -6,14 +7,6 @@ use lib.ListN.{length}
 use Rattle.lexer.proofs.NextLaws.{next-ahead}
 use Rattle.vectors.proofs.tokens.tokens.Statement.{statement}
 use Rattle.vectors.proofs.tokens.tokens.Tie as tie
-use Rattle.vectors.proofs.tokens.tokens.Reads as reads
-use Rattle.vectors.proofs.tokens.tokens.Lts as lts
-use Rattle.lexer.proofs.item.next_token.Reads as next-token-reads
-use Rattle.text.proofs.switches.present.Reads as present-reads
-use Rattle.vectors.proofs.show.end.Reads as end-reads
-use Rattle.vectors.proofs.show.places.Reads as places-reads
-use Rattle.vectors.proofs.show.refused.Reads as refused-reads
-use Rattle.vectors.proofs.show.token.Reads as token-reads
 
 abbrev Inv-loop : tie.InvT-loop
 Inv-loop text sw at₀ at = Unit {0}
@@ -30,17 +23,17 @@ loop-holds c = tt
 next-token-requires : tie.Need-next-token-requires Inv-loop μ-loop
 next-token-requires c κs = search needs
 
-enum-known-kind : tie.Need-enum-known-kind Inv-loop μ-loop
-enum-known-kind c = search needs
+enum-known-token : tie.Need-enum-known-token Inv-loop μ-loop
+enum-known-token c = search needs
 
 sub-token : tie.Need-sub-token Inv-loop μ-loop
-sub-token c = let w = next-ahead (c .before .before .before .before .before .before .present .result) (c .before .before .before .before .before .before .before .before .args .text .now) (c .before .before .before .before .before .loop .at) (c .before .kind .given .0 .0) (c .before .kind .given .0 .1 .0) (c .before .kind .given .0 .1 .1 .0) (omega arith) (sym (c .before .before .before .next-token .ensures) ∙ c .before .kind .given .1) in omega arith
+sub-token c = let w = next-ahead (c .before .before .before .before .before .before .present .result) (c .before .before .before .before .before .before .before .before .args .text .now) (c .before .before .before .before .before .loop .at) (c .before .token .given .0 .0 .kind) (c .before .token .given .0 .0 .span .start) (c .before .token .given .0 .0 .span .stop) (omega arith) (sym (c .before .before .before .next-token .ensures) ∙ c .before .token .given .1) in omega arith
 
 part-token-start : tie.Need-part-token-start Inv-loop μ-loop
-part-token-start c = let w = next-ahead (c .before .before .before .before .before .before .present .result) (c .before .before .before .before .before .before .before .before .args .text .now) (c .before .before .before .before .before .loop .at) (c .before .kind .given .0 .0) (c .before .kind .given .0 .1 .0) (c .before .kind .given .0 .1 .1 .0) (omega arith) (sym (c .before .before .before .next-token .ensures) ∙ c .before .kind .given .1) in omega arith
+part-token-start c = let w = next-ahead (c .before .before .before .before .before .before .present .result) (c .before .before .before .before .before .before .before .before .args .text .now) (c .before .before .before .before .before .loop .at) (c .before .token .given .0 .0 .kind) (c .before .token .given .0 .0 .span .start) (c .before .token .given .0 .0 .span .stop) (omega arith) (sym (c .before .before .before .next-token .ensures) ∙ c .before .token .given .1) in omega arith
 
 part-token-end : tie.Need-part-token-end Inv-loop μ-loop
-part-token-end c = let w = next-ahead (c .before .before .before .before .before .before .present .result) (c .before .before .before .before .before .before .before .before .args .text .now) (c .before .before .before .before .before .loop .at) (c .before .kind .given .0 .0) (c .before .kind .given .0 .1 .0) (c .before .kind .given .0 .1 .1 .0) (omega arith) (sym (c .before .before .before .next-token .ensures) ∙ c .before .kind .given .1) in omega arith
+part-token-end c = let w = next-ahead (c .before .before .before .before .before .before .present .result) (c .before .before .before .before .before .before .before .before .args .text .now) (c .before .before .before .before .before .loop .at) (c .before .token .given .0 .0 .kind) (c .before .token .given .0 .0 .span .start) (c .before .token .given .0 .0 .span .stop) (omega arith) (sym (c .before .before .before .next-token .ensures) ∙ c .before .token .given .1) in omega arith
 
 token-requires : tie.Need-token-requires Inv-loop μ-loop
 token-requires c κs = search needs
@@ -49,7 +42,9 @@ places-requires : tie.Need-places-requires Inv-loop μ-loop
 places-requires c κs = search needs
 
 loop-less : tie.Need-loop-less Inv-loop μ-loop
-loop-less c = let w = next-ahead (c .before .before .before .before .before .before .before .before .before .present .result) (c .before .before .before .before .before .before .before .before .before .before .before .args .text .now) (c .before .before .before .before .before .before .before .before .loop .at) (c .before .before .before .before .kind .given .0 .0) (c .before .before .before .before .kind .given .0 .1 .0) (c .before .before .before .before .kind .given .0 .1 .1 .0) (omega arith) (sym (c .before .before .before .before .before .before .next-token .ensures) ∙ c .before .before .before .before .kind .given .1) in omega arith
+loop-less c =
+    let the-token = c .before .before .before .before .token in
+    let w = next-ahead (c .before .before .before .before .before .before .before .before .before .present .result) (c .before .before .before .before .before .before .before .before .before .before .before .args .text .now) (c .before .before .before .before .before .before .before .before .loop .at) (the-token .given .0 .0 .kind) (the-token .given .0 .0 .span .start) (the-token .given .0 .0 .span .stop) (omega arith) (sym (c .before .before .before .before .before .before .next-token .ensures) ∙ the-token .given .1) in omega arith
 
 loop-again : tie.Need-loop-again Inv-loop μ-loop
 loop-again c = tt
@@ -63,8 +58,8 @@ end-requires c κs = search needs
 returns : tie.Need-returns Inv-loop μ-loop
 returns c = search needs
 
-enum-known-number : tie.Need-enum-known-number Inv-loop μ-loop
-enum-known-number c = search needs
+enum-known-refusal : tie.Need-enum-known-refusal Inv-loop μ-loop
+enum-known-refusal c = search needs
 
 refused-requires : tie.Need-refused-requires Inv-loop μ-loop
 refused-requires c κs = search needs
@@ -77,25 +72,6 @@ returns-3 c = search needs
 
 pub tokens-spec : {M : Type 1} → statement M
 tokens-spec =
-    tie.close
-    (tie.spec
-    Inv-loop
-    μ-loop
-    present-requires
-    loop-holds
-    next-token-requires
-    enum-known-kind
-    sub-token
-    part-token-start
-    part-token-end
-    token-requires
-    places-requires
-    loop-less
-    loop-again
-    enum-known-place
-    end-requires
-    returns
-    enum-known-number
-    refused-requires
-    returns-2
-    returns-3)
+    tie.close (tie.spec Inv-loop μ-loop present-requires loop-holds next-token-requires enum-known-token sub-token
+    part-token-start part-token-end token-requires places-requires loop-less loop-again enum-known-place end-requires
+    returns enum-known-refusal refused-requires returns-2 returns-3)

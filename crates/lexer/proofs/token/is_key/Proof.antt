@@ -1,9 +1,9 @@
--- made by tools/proof.py from answers/items/is_key (answers 89e12fc24750, proof bf22ae44f28c): edit that file, not this one
+-- made by tools/proof.py from answers/token/is_key (answers e9bff961ac39, proof 85558ca65eb3): edit that file, not this one
 use borrow.Author.Needs.{needs}
 use mathlib.Core.Path.{sym, ap, _∙_}
-use Rattle.reader.specs.Internal.Ahead.{isKey}
-use Rattle.reader.proofs.items.is_key.Statement.{statement}
-use Rattle.reader.proofs.items.is_key.Tie as tie
+use Rattle.lexer.specs.Internal.{isKey}
+use Rattle.lexer.proofs.token.is_key.Statement.{statement}
+use Rattle.lexer.proofs.token.is_key.Tie as tie
 
 enum-told : tie.Need-enum-told
 enum-told c = search needs
