@@ -253,17 +253,17 @@ pub fn same_content(sw: Switches, abody: Body, a: &[u8], bbody: Body, b: &[u8]) 
     if written_apart(abody, a, bbody, b) {
         return false;
     }
-    let mut x = cursor_at(0, start_of(abody), Few::Zero);
-    let mut y = cursor_at(0, start_of(bbody), Few::Zero);
+    let mut left = cursor_at(0, start_of(abody), Few::Zero);
+    let mut right = cursor_at(0, start_of(bbody), Few::Zero);
     loop {
-        match next_byte(sw, a, x) {
-            Piece::Byte(p, k) => match next_byte(sw, b, y) {
-                Piece::Byte(q, l) => {
-                    if p != q {
+        match next_byte(sw, a, left) {
+            Piece::Byte(x, left_next) => match next_byte(sw, b, right) {
+                Piece::Byte(y, right_next) => {
+                    if x != y {
                         return false;
                     }
-                    x = k;
-                    y = l;
+                    left = left_next;
+                    right = right_next;
                 }
                 Piece::End => {
                     return false;
@@ -272,7 +272,7 @@ pub fn same_content(sw: Switches, abody: Body, a: &[u8], bbody: Body, b: &[u8]) 
                     return false;
                 }
             },
-            Piece::End => match next_byte(sw, b, y) {
+            Piece::End => match next_byte(sw, b, right) {
                 Piece::Byte(_, _) => {
                     return false;
                 }

@@ -57,16 +57,16 @@ pub enum Body {
 }
 
 // Where the decoder stands. Plain, Escape, Hex: in a quoted body, between characters, after a backslash, and in `\x` (byte) or
-// `\u`, `\U`, with the value v so far and `left` digits due after the next one. Verbatim: in a raw body. Letters: in a word.
-// Digits, Pads: in a base64 body, the count of digits being q modulo 4 and `rest` the bits that no byte has been given of yet;
+// `\u`, `\U`, with the value so far and `left` digits due after the next one. Verbatim: in a raw body. Letters: in a word.
+// Digits, Pads: in a base64 body, the count of digits being `phase` modulo 4 and `rest` the bits that no byte has been given of yet;
 // after a pad, when `left` more may follow. Bad: no content.
 pub enum Decoder {
     Plain,
     Escape,
-    Hex { byte: bool, left: usize, v: u32 },
+    Hex { byte: bool, left: usize, value: u32 },
     Verbatim,
     Letters,
-    Digits { q: u8, rest: u8 },
+    Digits { phase: u8, rest: u8 },
     Pads { left: u8 },
     Bad,
 }
@@ -84,7 +84,7 @@ pub(crate) fn start_of(body: Body) -> Decoder
     match body {
         Body::Quoted => Decoder::Plain,
         Body::Raw => Decoder::Verbatim,
-        Body::Base64 => Decoder::Digits { q: 0, rest: 0 },
+        Body::Base64 => Decoder::Digits { phase: 0, rest: 0 },
         Body::Word => Decoder::Letters,
     }
 }
@@ -145,14 +145,14 @@ fn many_digits(sw: Switches, b: u8) -> Decoded
         return silent(Decoder::Hex {
             byte: true,
             left: 1,
-            v: 0,
+            value: 0,
         });
     }
     if b == b'u' {
         return silent(Decoder::Hex {
             byte: false,
             left: 3,
-            v: 0,
+            value: 0,
         });
     }
     if sw.long_escape {
@@ -160,7 +160,7 @@ fn many_digits(sw: Switches, b: u8) -> Decoded
             return silent(Decoder::Hex {
                 byte: false,
                 left: 7,
-                v: 0,
+                value: 0,
             });
         }
         return silent(Decoder::Bad);
@@ -200,58 +200,58 @@ fn escape_step(sw: Switches, b: u8) -> Decoded
 }
 
 // The UTF-8 of a scalar value, between characters again.
-fn scalar_done(v: u32) -> Decoded
-    requires { ⌜ v < 0x110000 ⌝ }
-    ensures { λ r. ⌜ r ≡ record { state = Decoder.Plain; out = encode v } ⌝ }
+fn scalar_done(value: u32) -> Decoded
+    requires { ⌜ value < 0x110000 ⌝ }
+    ensures { λ r. ⌜ r ≡ record { state = Decoder.Plain; out = encode value } ⌝ }
 {
     Decoded {
         state: Decoder::Plain,
-        out: utf8_of(v),
+        out: utf8_of(value),
     }
 }
 
-// An escape's last digit has been read, and v is its value.
-fn hex_done(byte: bool, v: u32) -> Decoded
-    requires { ⌜ v < 16 * hexRoom byte 0 ⌝ }
-    ensures { λ r. ⌜ r ≡ hexDone byte v ⌝ }
+// An escape's last digit has been read, with this value.
+fn hex_done(byte: bool, value: u32) -> Decoded
+    requires { ⌜ value < 16 * hexRoom byte 0 ⌝ }
+    ensures { λ r. ⌜ r ≡ hexDone byte value ⌝ }
 {
     if byte {
-        return single(Decoder::Plain, v as u8);
+        return single(Decoder::Plain, value as u8);
     }
-    if v < FIRST_SURROGATE {
-        return scalar_done(v);
+    if value < FIRST_SURROGATE {
+        return scalar_done(value);
     }
-    if v <= LAST_SURROGATE {
+    if value <= LAST_SURROGATE {
         return silent(Decoder::Bad);
     }
-    if v <= LAST_SCALAR {
-        return scalar_done(v);
+    if value <= LAST_SCALAR {
+        return scalar_done(value);
     }
     silent(Decoder::Bad)
 }
 
-// A digit of an escape has been read, v is the value with it, and `left` digits are due.
-fn hex_digit(byte: bool, left: usize, v: u32) -> Decoded
-    requires { ⌜ v < 16 * hexRoom byte left ⌝ }
-    ensures { λ r. ⌜ r ≡ hexDigit byte left v ⌝ }
+// A digit of an escape has been read, with the value so far, and `left` digits are due.
+fn hex_digit(byte: bool, left: usize, value: u32) -> Decoded
+    requires { ⌜ value < 16 * hexRoom byte left ⌝ }
+    ensures { λ r. ⌜ r ≡ hexDigit byte left value ⌝ }
 {
     if left == 0 {
-        return hex_done(byte, v);
+        return hex_done(byte, value);
     }
     silent(Decoder::Hex {
         byte,
         left: left - 1,
-        v,
+        value,
     })
 }
 
-fn hex_step(byte: bool, left: usize, v: u32, b: u8) -> Decoded
-    requires { ⌜ v < hexRoom byte left ⌝ }
-    ensures { λ r. ⌜ r ≡ hexStep byte left v b ⌝ }
+fn hex_step(byte: bool, left: usize, value: u32, b: u8) -> Decoded
+    requires { ⌜ value < hexRoom byte left ⌝ }
+    ensures { λ r. ⌜ r ≡ hexStep byte left value b ⌝ }
 {
     let d = digit_value(b);
     if d < 16 {
-        return hex_digit(byte, left, v * 16 + d as u32);
+        return hex_digit(byte, left, value * 16 + d as u32);
     }
     silent(Decoder::Bad)
 }
@@ -330,28 +330,43 @@ fn sextet(b: u8) -> u8
     NO_SEXTET
 }
 
-// A base64 digit of value v: the bits that it adds to `rest` make a byte, but for the first digit of four.
-fn base64_digit(q: u8, rest: u8, v: u8) -> Decoded
-    requires { ⌜ (rest < bitRoom q) × (v < 64) ⌝ }
-    ensures { λ r. ⌜ r ≡ base64Digit q rest v ⌝ }
+// A base64 digit of this value: the bits that it adds to `rest` make a byte, but for the first digit of four.
+fn base64_digit(phase: u8, rest: u8, value: u8) -> Decoded
+    requires { ⌜ (rest < bitRoom phase) × (value < 64) ⌝ }
+    ensures { λ r. ⌜ r ≡ base64Digit phase rest value ⌝ }
 {
-    if q == 0 {
-        return silent(Decoder::Digits { q: 1, rest: v });
+    if phase == 0 {
+        return silent(Decoder::Digits {
+            phase: 1,
+            rest: value,
+        });
     }
-    if q == 1 {
-        return single(Decoder::Digits { q: 2, rest: v % 16 }, rest * 4 + v / 16);
+    if phase == 1 {
+        return single(
+            Decoder::Digits {
+                phase: 2,
+                rest: value % 16,
+            },
+            rest * 4 + value / 16,
+        );
     }
-    if q == 2 {
-        return single(Decoder::Digits { q: 3, rest: v % 4 }, rest * 16 + v / 4);
+    if phase == 2 {
+        return single(
+            Decoder::Digits {
+                phase: 3,
+                rest: value % 4,
+            },
+            rest * 16 + value / 4,
+        );
     }
-    single(Decoder::Digits { q: 0, rest: 0 }, rest * 64 + v)
+    single(Decoder::Digits { phase: 0, rest: 0 }, rest * 64 + value)
 }
 
 // Whether no digit stands alone and no bit is left over.
-fn whole_bytes(q: u8, rest: u8) -> bool
-    ensures { λ r. ⌜ r ≡ wholeBytes q rest ⌝ }
+fn whole_bytes(phase: u8, rest: u8) -> bool
+    ensures { λ r. ⌜ r ≡ wholeBytes phase rest ⌝ }
 {
-    if q == 1 {
+    if phase == 1 {
         return false;
     }
     rest == 0
@@ -367,22 +382,22 @@ fn pad_step(left: u8) -> Decoded
     silent(Decoder::Pads { left: left - 1 })
 }
 
-fn digits_step(q: u8, rest: u8, b: u8) -> Decoded
-    requires { ⌜ rest < bitRoom q ⌝ }
-    ensures { λ r. ⌜ r ≡ digitsStep q rest b ⌝ }
+fn digits_step(phase: u8, rest: u8, b: u8) -> Decoded
+    requires { ⌜ rest < bitRoom phase ⌝ }
+    ensures { λ r. ⌜ r ≡ digitsStep phase rest b ⌝ }
 {
     if is_space(b) {
-        return silent(Decoder::Digits { q, rest });
+        return silent(Decoder::Digits { phase, rest });
     }
     if b == b'=' {
-        if whole_bytes(q, rest) {
-            return pad_step((4 - q) % 4);
+        if whole_bytes(phase, rest) {
+            return pad_step((4 - phase) % 4);
         }
         return silent(Decoder::Bad);
     }
-    let v = sextet(b);
-    if v < NO_SEXTET {
-        return base64_digit(q, rest, v);
+    let value = sextet(b);
+    if value < NO_SEXTET {
+        return base64_digit(phase, rest, value);
     }
     silent(Decoder::Bad)
 }
@@ -408,10 +423,10 @@ pub(crate) fn decode_step(sw: Switches, state: Decoder, b: u8) -> Decoded
     match state {
         Decoder::Plain => plain_step(sw, b),
         Decoder::Escape => escape_step(sw, b),
-        Decoder::Hex { byte, left, v } => hex_step(byte, left, v, b),
+        Decoder::Hex { byte, left, value } => hex_step(byte, left, value, b),
         Decoder::Verbatim => raw_step(sw, b),
         Decoder::Letters => single(Decoder::Letters, b),
-        Decoder::Digits { q, rest } => digits_step(q, rest, b),
+        Decoder::Digits { phase, rest } => digits_step(phase, rest, b),
         Decoder::Pads { left } => pads_step(left, b),
         Decoder::Bad => silent(Decoder::Bad),
     }
@@ -427,11 +442,11 @@ pub(crate) fn may_end(state: Decoder) -> bool
         Decoder::Hex {
             byte: _,
             left: _,
-            v: _,
+            value: _,
         } => false,
         Decoder::Verbatim => true,
         Decoder::Letters => true,
-        Decoder::Digits { q, rest } => whole_bytes(q, rest),
+        Decoder::Digits { phase, rest } => whole_bytes(phase, rest),
         Decoder::Pads { left: _ } => true,
         Decoder::Bad => false,
     }

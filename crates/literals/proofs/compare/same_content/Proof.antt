@@ -12,11 +12,13 @@ use Rattle.literals.proofs.compare.next_byte.Reads as next-byte-reads
 use Rattle.literals.proofs.compare.written_apart.Reads as written-apart-reads
 use Rattle.literals.proofs.decoder.start_of.Reads as start-of-reads
 
+
+
 abbrev Inv-loop : tie.InvT-loop
-Inv-loop sw a b x₀ y₀ x y = Both sw a b x₀ y₀ x y
+Inv-loop sw a b left₀ right₀ left right = Both sw a b left₀ right₀ left right
 
 abbrev μ-loop : tie.MeasureT-loop
-μ-loop sw a b x₀ y₀ x y = weight a x
+μ-loop sw a b left₀ right₀ left right = weight a left
 
 written-apart-requires : tie.Need-written-apart-requires Inv-loop μ-loop
 written-apart-requires c κs = search needs
@@ -42,29 +44,29 @@ loop-holds c = both-start (c .before .before .cursor-at .ensures) (c .cursor-at2
 next-byte-requires : tie.Need-next-byte-requires Inv-loop μ-loop
 next-byte-requires c κs = c .loop .inv .one
 
-enum-known-p : tie.Need-enum-known-p Inv-loop μ-loop
-enum-known-p c = search needs
+enum-known-x : tie.Need-enum-known-x Inv-loop μ-loop
+enum-known-x c = search needs
 
 next-byte-requires-2 : tie.Need-next-byte-requires-2 Inv-loop μ-loop
 next-byte-requires-2 c κs = c .before .before .before .before .loop .inv .two
 
-enum-known-q : tie.Need-enum-known-q Inv-loop μ-loop
-enum-known-q c = search needs
+enum-known-y : tie.Need-enum-known-y Inv-loop μ-loop
+enum-known-y c = search needs
 
 returns-2 : tie.Need-returns-2 Inv-loop μ-loop
-returns-2 c = both-differ (c .before .before .before .before .before .before .before .before .before .before .before .before .cursor-at .ensures) (c .before .before .before .before .before .before .before .before .before .before .cursor-at2 .ensures) (c .before .before .before .before .before .before .before .before .before .before .before .before .before .before .before .before .before .before .args .abody) (c .before .before .before .before .before .before .before .before .before .before .before .before .before .before .before .before .before .before .args .bbody) (c .before .before .before .before .before .before .before .before .before .before .before .before .before .start-of .ensures) (c .before .before .before .before .before .before .before .before .before .before .before .start-of2 .ensures) (c .before .before .before .before .before .before .before .before .before .loop .inv) (byte-is (c .before .before .before .before .before .before .p .given .1) (c .before .before .before .before .before .before .before .before .next-byte .ensures)) (byte-is (c .before .before .q .given .1) (c .before .before .before .before .next-byte2 .ensures)) (c .if2 .taken)
+returns-2 c = both-differ (c .before .before .before .before .before .before .before .before .before .before .before .before .cursor-at .ensures) (c .before .before .before .before .before .before .before .before .before .before .cursor-at2 .ensures) (c .before .before .before .before .before .before .before .before .before .before .before .before .before .before .before .before .before .before .args .abody) (c .before .before .before .before .before .before .before .before .before .before .before .before .before .before .before .before .before .before .args .bbody) (c .before .before .before .before .before .before .before .before .before .before .before .before .before .start-of .ensures) (c .before .before .before .before .before .before .before .before .before .before .before .start-of2 .ensures) (c .before .before .before .before .before .before .before .before .before .loop .inv) (byte-is (c .before .before .before .before .before .before .x .given .1) (c .before .before .before .before .before .before .before .before .next-byte .ensures)) (byte-is (c .before .before .y .given .1) (c .before .before .before .before .next-byte2 .ensures)) (c .if2 .taken)
 
 loop-less : tie.Need-loop-less Inv-loop μ-loop
-loop-less c = let E = byte-is (c .before .before .before .before .before .before .p .given .1) (c .before .before .before .before .before .before .before .before .next-byte .ensures) in omega arith
+loop-less c = let E = byte-is (c .before .before .before .before .before .before .x .given .1) (c .before .before .before .before .before .before .before .before .next-byte .ensures) in omega arith
 
 loop-again : tie.Need-loop-again Inv-loop μ-loop
-loop-again c = both-on (c .before .before .before .before .before .before .before .before .before .loop .inv) (byte-is (c .before .before .before .before .before .before .p .given .1) (c .before .before .before .before .before .before .before .before .next-byte .ensures)) (byte-is (c .before .before .q .given .1) (c .before .before .before .before .next-byte2 .ensures)) (c .if2 .left)
+loop-again c = both-on (c .before .before .before .before .before .before .before .before .before .loop .inv) (byte-is (c .before .before .before .before .before .before .x .given .1) (c .before .before .before .before .before .before .before .before .next-byte .ensures)) (byte-is (c .before .before .y .given .1) (c .before .before .before .before .next-byte2 .ensures)) (c .if2 .left)
 
 enum-told : tie.Need-enum-told Inv-loop μ-loop
 enum-told c = search needs
 
 returns-3 : tie.Need-returns-3 Inv-loop μ-loop
-returns-3 c = both-long (c .before .before .before .before .before .before .before .before .before .before .cursor-at .ensures) (c .before .before .before .before .before .before .before .before .cursor-at2 .ensures) (c .before .before .before .before .before .before .before .before .before .before .before .before .before .before .before .before .args .abody) (c .before .before .before .before .before .before .before .before .before .before .before .before .before .before .before .before .args .bbody) (c .before .before .before .before .before .before .before .before .before .before .before .start-of .ensures) (c .before .before .before .before .before .before .before .before .before .start-of2 .ensures) (c .before .before .before .before .before .before .before .loop .inv) (byte-is (c .before .before .before .before .p .given .1) (c .before .before .before .before .before .before .next-byte .ensures)) (end-is (c .enum-told .given .1) (c .before .before .next-byte2 .ensures))
+returns-3 c = both-long (c .before .before .before .before .before .before .before .before .before .before .cursor-at .ensures) (c .before .before .before .before .before .before .before .before .cursor-at2 .ensures) (c .before .before .before .before .before .before .before .before .before .before .before .before .before .before .before .before .args .abody) (c .before .before .before .before .before .before .before .before .before .before .before .before .before .before .before .before .args .bbody) (c .before .before .before .before .before .before .before .before .before .before .before .start-of .ensures) (c .before .before .before .before .before .before .before .before .before .start-of2 .ensures) (c .before .before .before .before .before .before .before .loop .inv) (byte-is (c .before .before .before .before .x .given .1) (c .before .before .before .before .before .before .next-byte .ensures)) (end-is (c .enum-told .given .1) (c .before .before .next-byte2 .ensures))
 
 enum-told-2 : tie.Need-enum-told-2 Inv-loop μ-loop
 enum-told-2 c = search needs
@@ -116,9 +118,9 @@ same-content-spec =
     cursor-at-requires-2
     loop-holds
     next-byte-requires
-    enum-known-p
+    enum-known-x
     next-byte-requires-2
-    enum-known-q
+    enum-known-y
     returns-2
     loop-less
     loop-again

@@ -10,6 +10,8 @@ use Rattle.literals.proofs.decoder.base64_digit.Lts as lts
 use Rattle.literals.proofs.decoder.silent.Reads as silent-reads
 use Rattle.literals.proofs.decoder.single.Reads as single-reads
 
+
+
 silent-requires : tie.Need-silent-requires
 silent-requires c κs = search needs
 
@@ -18,10 +20,10 @@ unfolding base64Digit
 returns c = rw (c .before .if1 .taken) (c .silent .ensures)
 
 mul-single : tie.Need-mul-single
-mul-single c = let r = bits-one (c .before .before .args .q) (c .if2 .taken) in omega arith
+mul-single c = let r = bits-one (c .before .before .args .phase) (c .if2 .taken) in omega arith
 
 add-single : tie.Need-add-single
-add-single c = let r = bits-one (c .before .before .args .q) (c .if2 .taken) in omega arith
+add-single c = let r = bits-one (c .before .before .args .phase) (c .if2 .taken) in omega arith
 
 single-requires : tie.Need-single-requires
 single-requires c κs = search needs
@@ -31,10 +33,10 @@ unfolding base64Digit
 returns-2 c = rw (c .before .if2 .taken) (c .single .ensures)
 
 mul-single-2 : tie.Need-mul-single-2
-mul-single-2 c = let r = bits-two (c .before .before .before .args .q) (c .if3 .taken) in omega arith
+mul-single-2 c = let r = bits-two (c .before .before .before .args .phase) (c .if3 .taken) in omega arith
 
 add-single-2 : tie.Need-add-single-2
-add-single-2 c = let r = bits-two (c .before .before .before .args .q) (c .if3 .taken) in omega arith
+add-single-2 c = let r = bits-two (c .before .before .before .args .phase) (c .if3 .taken) in omega arith
 
 single-requires-2 : tie.Need-single-requires-2
 single-requires-2 c κs = search needs
@@ -44,10 +46,10 @@ unfolding base64Digit
 returns-3 c = rw (c .before .if3 .taken) (c .single2 .ensures)
 
 mul-single-3 : tie.Need-mul-single-3
-mul-single-3 c = let r = bits-last (c .before .before .before .args .q) (omega arith) in omega arith
+mul-single-3 c = let r = bits-last (c .before .before .before .args .phase) (omega arith) in omega arith
 
 add-single-3 : tie.Need-add-single-3
-add-single-3 c = let r = bits-last (c .before .before .before .args .q) (omega arith) in omega arith
+add-single-3 c = let r = bits-last (c .before .before .before .args .phase) (omega arith) in omega arith
 
 single-requires-3 : tie.Need-single-requires-3
 single-requires-3 c κs = search needs

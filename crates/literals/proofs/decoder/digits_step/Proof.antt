@@ -14,6 +14,8 @@ use Rattle.literals.proofs.decoder.sextet.Reads as sextet-reads
 use Rattle.literals.proofs.decoder.silent.Reads as silent-reads
 use Rattle.literals.proofs.decoder.whole_bytes.Reads as whole-bytes-reads
 
+
+
 is-space-requires : tie.Need-is-space-requires
 is-space-requires c κs = search needs
 
@@ -28,7 +30,7 @@ whole-bytes-requires : tie.Need-whole-bytes-requires
 whole-bytes-requires c κs = search needs
 
 sub-pad-step : tie.Need-sub-pad-step
-sub-pad-step c = let r = bits-few (c .before .before .before .before .before .args .q) (c .before .before .before .before .before .args .rest) (c .before .before .before .before .before .pre) in omega arith
+sub-pad-step c = let r = bits-few (c .before .before .before .before .before .args .phase) (c .before .before .before .before .before .args .rest) (c .before .before .before .before .before .pre) in omega arith
 
 pad-step-requires : tie.Need-pad-step-requires
 pad-step-requires c κs = search needs

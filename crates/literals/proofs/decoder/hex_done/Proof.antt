@@ -12,6 +12,8 @@ use Rattle.literals.proofs.decoder.scalar_done.Reads as scalar-done-rea
 use Rattle.literals.proofs.decoder.silent.Reads as silent-reads
 use Rattle.literals.proofs.decoder.single.Reads as single-reads
 
+
+
 cast-single : tie.Need-cast-single
 unfolding hexDone isScalar hexRoom
 cast-single c = let h = rw (c .if1 .taken) at (c .before .pre) in omega arith
@@ -35,21 +37,21 @@ silent-requires c κs = search needs
 
 returns-3 : tie.Need-returns-3
 unfolding hexDone isScalar hexRoom
-returns-3 c = rw (c .before .before .before .if1 .left, le-ltb _ _ (c .before .before .if2 .left), lt-leb 57344 (c .before .before .before .before .args .v) (omega arith)) (c .silent .ensures)
+returns-3 c = rw (c .before .before .before .if1 .left, le-ltb _ _ (c .before .before .if2 .left), lt-leb 57344 (c .before .before .before .before .args .value) (omega arith)) (c .silent .ensures)
 
 scalar-done-requires-2 : tie.Need-scalar-done-requires-2
 scalar-done-requires-2 c κs = search needs
 
 returns-4 : tie.Need-returns-4
 unfolding hexDone isScalar hexRoom
-returns-4 c = rw (c .before .before .before .before .if1 .left, le-ltb _ _ (c .before .before .before .if2 .left), le-leb 57344 (c .before .before .before .before .before .args .v) (omega arith), le-leb _ _ (c .before .if4 .taken)) (c .scalar-done2 .ensures)
+returns-4 c = rw (c .before .before .before .before .if1 .left, le-ltb _ _ (c .before .before .before .if2 .left), le-leb 57344 (c .before .before .before .before .before .args .value) (omega arith), le-leb _ _ (c .before .if4 .taken)) (c .scalar-done2 .ensures)
 
 silent-requires-2 : tie.Need-silent-requires-2
 silent-requires-2 c κs = search needs
 
 returns-5 : tie.Need-returns-5
 unfolding hexDone isScalar hexRoom
-returns-5 c = rw (c .before .before .before .before .if1 .left, le-ltb _ _ (c .before .before .before .if2 .left), le-leb 57344 (c .before .before .before .before .before .args .v) (omega arith), lt-leb _ _ (c .before .if4 .left)) (c .silent2 .ensures)
+returns-5 c = rw (c .before .before .before .before .if1 .left, le-ltb _ _ (c .before .before .before .if2 .left), le-leb 57344 (c .before .before .before .before .before .args .value) (omega arith), lt-leb _ _ (c .before .if4 .left)) (c .silent2 .ensures)
 
 pub hex-done-spec : {M : Type 1} → statement M
 hex-done-spec =
