@@ -15,6 +15,8 @@ use native.Mathlib.Decide.{decLt}
 use borrow.Author.Tests.{ltb-false}
 use Rattle.text.specs.declared.switches.Switches.{Switches}
 use Rattle.text.specs.Bytes.{front}
+use Rattle.text.specs.declared.refusal.Refusal.{Refusal}
+use Rattle.text.specs.Refusal.{refusal}
 use Rattle.lexer.proofs.ItemCases.{front-le}
 use Rattle.reader.specs.Tree.{Tree, leaf, branch, Forest, nil, cons, size, sizes, kindNumber, nodeWords}
 use Rattle.reader.specs.declared.tree.Kind.the-variants.{Object, Array, Tuple}
@@ -210,11 +212,11 @@ module _ (sw : Switches) (text table path : List ℕ) (n k e : ℕ) (r : Child) 
             ∙ ap (λ (o : Option Numbered). onward k o (λ (c : Numbered). follow sw text (suc k) (c .number) (c .value) rest)) (G .is));
       }
 
-  pub follow-missing : r ≡ C.Nothing → FollowIs sw text path table n k (F.Refused 23 k)
+  pub follow-missing : r ≡ C.Nothing → FollowIs sw text path table n k (F.Refused (refusal 23 k))
   unfolding follow onward
   follow-missing g = record { is = λ t N. sym (missing-by t (no-child sw text (take e path) table n r K g t N)) }
     where
-      missing-by : (t : Tree) → child sw text n t (take e path) ≡ none → follow sw text k n t (pieces path) ≡ F.Refused 23 k
+      missing-by : (t : Tree) → child sw text n t (take e path) ≡ none → follow sw text k n t (pieces path) ≡ F.Refused (refusal 23 k)
       missing-by t d =
           elim (decLt e (length path)) [
             | yes h ↦
@@ -258,7 +260,7 @@ module _ (sw : Switches) (text path : List ℕ) where
       all-steps (b ∷ s) l = refl
   found-on words (refused number place) table n a w e z A = cc
 
-  pub found-refused : (o : Outcome) (number place : ℕ) → answerOf o ≡ R.Refused number place → F.Refused number place ≡ found sw text path o
+  pub found-refused : (o : Outcome) (f : Refusal) → answerOf o ≡ R.Refused f → F.Refused f ≡ found sw text path o
   unfolding answerOf found
-  found-refused (taken tree) number place e = cc
-  found-refused (refused k p) number place e = cc
+  found-refused (taken tree) f e = cc
+  found-refused (refused number place) f e = cc

@@ -7,6 +7,7 @@ use mathlib.Core.Option.{Option, none, some}
 use mathlib.Core.List.{List, [], _∷_}
 use lib.ListN.{length}
 use Rattle.text.specs.declared.switches.Switches.{Switches}
+use Rattle.text.specs.declared.refusal.Refusal.{Refusal}
 use Rattle.reader.specs.Tree.{Tree, size}
 use Rattle.reader.specs.Syntax.{Outcome, taken, refused}
 use Rattle.reader.specs.Reading.{reading, tableOf, nodeCount}
@@ -24,12 +25,12 @@ use Rattle.path.proofs.FollowLaws.{child-among}
 -- in a tree with so many nodes: to a node's number, or to 23 and the number of a step, with `left` steps from the step k on
 unfoldable pub Leads : (nodes k left : ℕ) → Found → Type 0
 Leads nodes k left (F.At n) = n < nodes
-Leads nodes k left (F.Refused number j) = (number ≡ 23) × (j < nodes) × (j < k + left)
+Leads nodes k left (F.Refused f) = (f .number ≡ 23) × (f .place < nodes) × (f .place < k + left)
 
 more-left : (nodes k left : ℕ) (a : Found) → Leads nodes (suc k) left a → Leads nodes k (suc left) a
 unfolding Leads
 more-left nodes k left (F.At n) h = h
-more-left nodes k left (F.Refused number j) h = (h .0, h .1, let l = h .2 in omega arith)
+more-left nodes k left (F.Refused f) h = (h .0, h .1, let l = h .2 in omega arith)
 
 module _ (sw : Switches) (text : List ℕ) (tree : Tree) where
   -- a child has a greater number than its parent, so at the step k the number is at least k
@@ -52,12 +53,12 @@ module _ (sw : Switches) (text : List ℕ) (tree : Tree) where
 -- of a text with so many nodes: a node's number, or a place that can be packed with a refusal's number
 Fits : (nodes : ℕ) → Found → Type 0
 Fits nodes (F.At n) = n < nodes
-Fits nodes (F.Refused number place) = place ≤ 65536
+Fits nodes (F.Refused f) = f .place ≤ 65536
 
 leads-fits : (nodes left : ℕ) (a : Found) → nodes ≤ 4096 → Leads nodes 0 left a → Fits nodes a
 unfolding Leads Fits
 leads-fits nodes left (F.At n) l h = h
-leads-fits nodes left (F.Refused number j) l h = let b = h .1 in omega arith
+leads-fits nodes left (F.Refused f) l h = let b = h .1 in omega arith
 
 found-by : (sw : Switches) (text path : List ℕ) (o : Outcome) → nodeCount o ≤ 4096 → PlaceWithin 65536 o → Fits (nodeCount o) (found sw text path o)
 unfolding found nodeCount PlaceWithin Fits
@@ -83,6 +84,6 @@ module _ (sw : Switches) (words : ℕ) (text path : List ℕ) where
       record { value = r .0; node = r .2 }
 
   -- a refusal's place is at most 65536: a step's number is below the count of nodes
-  pub found-place : (number place : ℕ) → F.Refused number place ≡ found sw text path (reading sw words text) → place ≤ 65536
+  pub found-place : (f : Refusal) → F.Refused f ≡ found sw text path (reading sw words text) → f .place ≤ 65536
   unfolding Fits
-  found-place number place e = subst (Fits (nodeCount (reading sw words text))) (sym e) found-fits
+  found-place f e = subst (Fits (nodeCount (reading sw words text))) (sym e) found-fits

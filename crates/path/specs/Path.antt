@@ -7,6 +7,7 @@ use mathlib.Core.Option.{Option, none, some}
 use mathlib.Core.List.{List, [], _∷_}
 use Rattle.text.specs.declared.switches.Switches.{Switches}
 use Rattle.text.specs.Bytes.{is, isDigit}
+use Rattle.text.specs.Refusal.{refusal}
 use Rattle.reader.specs.declared.tree.Kind.the-variants.{Object, Array, Tuple}
 use Rattle.reader.specs.Tree.{Tree, leaf, branch}
 use Rattle.reader.specs.Syntax.{Outcome, taken, refused}
@@ -67,7 +68,7 @@ child sw text n (branch head Tuple children) step = indexed n (branch head Tuple
 
 -- on from the child, if there is one: "or 23 and the number of the first step, from 0, that has no child to go to"; k is the step's number
 unfoldable pub onward : (k : ℕ) → Option Numbered → (Numbered → Found) → Found
-onward k none go = F.Refused 23 k
+onward k none go = F.Refused (refusal 23 k)
 onward k (some c) go = go c
 
 -- "Following a path takes one step off it each time": from the value with the number n, by the steps that are left, the first of which has
@@ -82,4 +83,4 @@ follow sw text k n t (s ∷ ss) = onward k (child sw text n t s) (λ c. follow s
 -- src/find.rt: a node's number, or the number of a refusal with its place
 unfoldable pub found : Switches → (text path : List ℕ) → Outcome → Found
 found sw text path (taken tree) = follow sw text 0 0 tree (steps path)
-found sw text path (refused number place) = F.Refused number place
+found sw text path (refused number place) = F.Refused (refusal number place)
