@@ -23,8 +23,8 @@ pub(crate) fn print(text: &[u8], path: &[u8]) {
     let mut table = [0u32; 49152];
     match find(text, &mut table, path) {
         Found::At(n) => print_node(&table, n),
-        Found::Refused(number, place) => {
-            lines::refused(number, place);
+        Found::Refused(refusal) => {
+            lines::refused(refusal.number, refusal.place);
         }
     }
 }

@@ -24,8 +24,8 @@ pub(crate) fn list(text: &[u8]) {
     let mut table = [0u32; 12288];
     match read(text, &mut table) {
         Reading::Taken(count) => nodes(&table, count),
-        Reading::Refused(number, place) => {
-            lines::refused(number, place);
+        Reading::Refused(refusal) => {
+            lines::refused(refusal.number, refusal.place);
         }
     }
 }

@@ -13,6 +13,8 @@ use Rattle.console.proofs.lines.refused.Reads as refused-reads
 use Rattle.find.proofs.answer.print_node.Reads as print-node-reads
 use Rattle.path.proofs.find.find.Reads as find-reads
 
+
+
 slice-aggregate-find : tie.Need-slice-aggregate-find
 slice-aggregate-find c = search needs
 
@@ -28,8 +30,8 @@ slice-aggregate-print-node c = search needs
 print-node-requires : tie.Need-print-node-requires
 print-node-requires c κs = subst (λ (t : List ℕ). Stands t (c .before .before .n .given .0 .0)) (sym (c .before .before .before .before .before .find .ensures .1)) (found-stands _ _ _ _ _ (sym (c .before .before .n .given .1) ∙ c .before .before .before .before .before .find .ensures .0))
 
-enum-known-number : tie.Need-enum-known-number
-enum-known-number c = search needs
+enum-known-refusal : tie.Need-enum-known-refusal
+enum-known-refusal c = search needs
 
 refused-requires : tie.Need-refused-requires
 refused-requires c κs = search needs
@@ -49,7 +51,7 @@ print-spec =
     enum-known-n
     slice-aggregate-print-node
     print-node-requires
-    enum-known-number
+    enum-known-refusal
     refused-requires
     returns
     returns-2)

@@ -9,6 +9,8 @@ use Rattle.console.proofs.lines.refused.Reads as refused-reads
 use Rattle.list.proofs.listing.nodes.Reads as nodes-reads
 use Rattle.reader.proofs.read.read.Reads as read-reads
 
+
+
 slice-aggregate-read : tie.Need-slice-aggregate-read
 slice-aggregate-read c = search needs
 
@@ -24,8 +26,8 @@ slice-aggregate-nodes c = search needs
 nodes-requires : tie.Need-nodes-requires
 nodes-requires c κs = rows-inside _ _ _ _ _ (c .before .before .count .given .0 .0) (c .before .before .before .before .before .read .ensures .0) (c .before .before .count .given .1) (c .before .before .before .before .before .read .ensures .1)
 
-enum-known-number : tie.Need-enum-known-number
-enum-known-number c = search needs
+enum-known-refusal : tie.Need-enum-known-refusal
+enum-known-refusal c = search needs
 
 refused-requires : tie.Need-refused-requires
 refused-requires c κs = search needs
@@ -45,7 +47,7 @@ list-spec =
     enum-known-count
     slice-aggregate-nodes
     nodes-requires
-    enum-known-number
+    enum-known-refusal
     refused-requires
     returns
     returns-2)
