@@ -5,36 +5,33 @@ use Prim.Native.Nat.{ℕ, _+_, _≤_, _<_, min}
 use native.Mathlib.Omega.{arith}
 use mathlib.Core.Bool.{Bool, true, false, not, cond}
 use mathlib.Core.List.{List, [], _∷_, _++_}
-use lib.Dec.{T, leb, ltb, eqb, ltb→lt}
+use lib.Dec.{leb, ltb, eqb}
 use lib.ListN.{length, length-append}
 use borrow.Author.Tests.{ltb-false, leb-false, eqb-true, not-false}
 use Rattle.text.specs.declared.switches.Switches.{Switches}
 use Rattle.reader.specs.Reading.{reading, reads, nodeCount, tableOf, oneValue, maxText}
-use Rattle.editor.specs.Edit.{Lent, Result, textOf, journalOf, answered, corrected, entryOf, withText, overwritten, noRoom, correctionRefusal, withCorrection, decided, correct}
+use Rattle.editor.specs.declared.change.InUse.{InUse}
+use Rattle.editor.specs.Edit.{Lent, inUse, Report, Result, textOf, journalOf, resultOf, corrected, entryOf, withText, overwritten, noRoom, correctionRefusal, withCorrection, decided, correct}
 use Rattle.editor.specs.Internal.{opened}
 use Rattle.editor.specs.Book.{Correction, Room, Seen, bookText, bookJournal, bookRefusal, told, handedOn, seenOf}
 use Rattle.editor.proofs.CallLaws.{good-length, opened-decided}
+use Rattle.editor.proofs.TrialLaws.{zero-cond}
 use Rattle.editor.proofs.SpliceLaws.{length-withText, take-withText, length-overwritten, take-overwritten}
-
--- a chain of refusals that comes to 0: the first test failed, and so did the rest
-zero-cond : (b : Bool) (n x : ℕ) → T (ltb 0 n) → cond b n x ≡ 0 → (b ≡ false) × (x ≡ 0)
-zero-cond true n x t e = let h = ltb→lt 0 n t in absurd (omega arith)
-zero-cond false n x t e = (refl, e)
 
 module _ (sw : Switches) where
   -- the answer and the buffers of a call, by text, journal and lengths
-  shown : (words number : ℕ) (t j : List ℕ) (u k : ℕ) → Seen
-  shown words number t j u k =
+  shown : (words number : ℕ) (t j : List ℕ) → InUse → Seen Report
+  shown words number t j used =
       record {
-        answer = record { number = number; place = 0; nodes = nodeCount (reading sw words t); used = u; kept = k };
+        answer = record { number = number; place = 0; nodes = nodeCount (reading sw words t); used = used };
         text = t;
         journal = j;
         table = tableOf words (reading sw words t);
       }
 
   -- 12 to 16, by text, room and the journal's length with the new entry
-  chain : (words : ℕ) → Correction → (t : List ℕ) (room total journal : ℕ) → ℕ
-  chain words c t room total journal =
+  refusalBy : (words : ℕ) → Correction → (t : List ℕ) (room total journal : ℕ) → ℕ
+  refusalBy words c t room total journal =
       cond (leb (nodeCount (reading sw words t)) (c .node)) 12
       (cond (not (oneValue sw (ltb 0 (c .node)) (c .replacement))) 13
       (cond (noRoom (corrected sw words (c .node) (c .replacement) t) room) 14
@@ -48,9 +45,9 @@ module _ (sw : Switches) where
     enters : total ≤ journal
     reads′ : reads sw words (corrected sw words (c .node) (c .replacement) t) ≡ true
 
-  accepted : (words : ℕ) (c : Correction) (t : List ℕ) (room total journal : ℕ) → chain words c t room total journal ≡ 0
+  accepted : (words : ℕ) (c : Correction) (t : List ℕ) (room total journal : ℕ) → refusalBy words c t room total journal ≡ 0
       → Accepted words c t room total journal
-  unfolding chain noRoom
+  unfolding refusalBy noRoom
   accepted words c t room total journal e =
       let new : List ℕ = corrected sw words (c .node) (c .replacement) t in
       let x₅ : ℕ = cond (not (reads sw words new)) 16 0 in
@@ -98,38 +95,38 @@ module _ (sw : Switches) where
     pub record Shared (cs : List Correction) (b : Lent) : Type 0 where
       pub textRoom : length (b .text) ≡ room .text
       pub journalRoom : length (b .journal) ≡ room .journal
-      pub usedFits : b .used ≤ length (b .text)
-      pub keptFits : b .kept ≤ length (b .journal)
-      pub used : b .used ≡ length (text-of cs)
-      pub kept : b .kept ≡ length (journal-of cs)
+      pub textFits : b .used .text ≤ length (b .text)
+      pub journalFits : b .used .journal ≤ length (b .journal)
+      pub textUsed : b .used .text ≡ length (text-of cs)
+      pub journalUsed : b .used .journal ≡ length (journal-of cs)
       pub texts : textOf b ≡ text-of cs
       pub journals : journalOf b ≡ journal-of cs
       pub force : AllAccepted cs
 
-    pub seen-told : (cs : List Correction) (b : Lent) (n : ℕ) → Shared cs b → seenOf (answered sw W n 0 b) ≡ told sw room first n cs
-    unfolding seenOf handedOn answered told shown
-    seen-told cs b n sh = λ i. shown W n (sh .texts i) (sh .journals i) (sh .used i) (sh .kept i)
+    pub seen-told : (cs : List Correction) (b : Lent) (n : ℕ) → Shared cs b → seenOf (resultOf sw W n 0 b) ≡ told sw room first n cs
+    unfolding seenOf handedOn resultOf told shown
+    seen-told cs b n sh = λ i. shown W n (sh .texts i) (sh .journals i) (inUse (sh .textUsed i) (sh .journalUsed i))
 
     -- what a call shows is its own decision
     pub shared-decided : (cs : List Correction) (b : Lent) (refusal : ℕ) (new : Lent) → Shared cs b
         → opened sw W b refusal new ≡ decided sw W b refusal new
     shared-decided cs b refusal new sh =
-        opened-decided sw W b refusal new (good-length sw W b (sh .usedFits) (sh .keptFits)) (ap (reads sw W) (sh .texts) ∙ in-reads cs (sh .force))
+        opened-decided sw W b refusal new (good-length sw W b (sh .textFits) (sh .journalFits)) (ap (reads sw W) (sh .texts) ∙ in-reads cs (sh .force))
 
     -- ---- corrections
 
-    chain-book : (cs : List Correction) (c : Correction)
-        → bookRefusal sw room first cs c ≡ chain W c (text-of cs) (room .text) (length (journal-of cs) + length (entryOf sw W (c .node) (c .replacement) (text-of cs))) (room .journal)
-    unfolding bookRefusal chain noRoom bookText bookJournal
-    chain-book cs c =
-        ap (λ (n : ℕ). chain W c (text-of cs) (room .text) n (room .journal)) (length-append (journal-of cs) (entryOf sw W (c .node) (c .replacement) (text-of cs)))
+    book-refusal : (cs : List Correction) (c : Correction)
+        → bookRefusal sw room first cs c ≡ refusalBy W c (text-of cs) (room .text) (length (journal-of cs) + length (entryOf sw W (c .node) (c .replacement) (text-of cs))) (room .journal)
+    unfolding bookRefusal refusalBy noRoom bookText bookJournal
+    book-refusal cs c =
+        ap (λ (n : ℕ). refusalBy W c (text-of cs) (room .text) n (room .journal)) (length-append (journal-of cs) (entryOf sw W (c .node) (c .replacement) (text-of cs)))
 
-    chain-lent : (cs : List Correction) (b : Lent) (c : Correction) → Shared cs b
+    lent-refusal : (cs : List Correction) (b : Lent) (c : Correction) → Shared cs b
         → correctionRefusal sw W b (c .node) (c .replacement)
-        ≡ chain W c (text-of cs) (room .text) (length (journal-of cs) + length (entryOf sw W (c .node) (c .replacement) (text-of cs))) (room .journal)
-    unfolding correctionRefusal chain
-    chain-lent cs b c sh =
-        λ i. chain W c (sh .texts i) (sh .textRoom i) (sh .kept i + length (entryOf sw W (c .node) (c .replacement) (sh .texts i))) (sh .journalRoom i)
+        ≡ refusalBy W c (text-of cs) (room .text) (length (journal-of cs) + length (entryOf sw W (c .node) (c .replacement) (text-of cs))) (room .journal)
+    unfolding correctionRefusal refusalBy
+    lent-refusal cs b c sh =
+        λ i. refusalBy W c (sh .texts i) (sh .textRoom i) (sh .journalUsed i + length (entryOf sw W (c .node) (c .replacement) (sh .texts i))) (sh .journalRoom i)
 
     withCorrection-shared : (cs : List Correction) (b : Lent) (c : Correction) → Shared cs b
         → Accepted W c (text-of cs) (room .text) (length (journal-of cs) + length (entryOf sw W (c .node) (c .replacement) (text-of cs))) (room .journal)
@@ -146,21 +143,21 @@ module _ (sw : Switches) where
         let g₂ = ac .enters in
         let g₃ = sh .textRoom in
         let g₄ = sh .journalRoom in
-        let g₅ = sh .kept in
-        let g₆ = sh .usedFits in
+        let g₅ = sh .journalUsed in
+        let g₆ = sh .textFits in
         let n : length new ≤ length (b .text) = omega arith in
-        let m : b .kept + length more ≤ length (b .journal) = omega arith in
-        let lt : length (withText (b .used) new (b .text)) ≡ length (b .text) = length-withText (b .used) new (b .text) g₆ n in
-        let lj : length (overwritten (b .kept) more (b .journal)) ≡ length (b .journal) = length-overwritten (b .kept) more (b .journal) m in
+        let m : b .used .journal + length more ≤ length (b .journal) = omega arith in
+        let lt : length (withText (b .used .text) new (b .text)) ≡ length (b .text) = length-withText (b .used .text) new (b .text) g₆ n in
+        let lj : length (overwritten (b .used .journal) more (b .journal)) ≡ length (b .journal) = length-overwritten (b .used .journal) more (b .journal) m in
         record {
           textRoom = lt ∙ g₃;
           journalRoom = lj ∙ g₄;
-          usedFits = omega arith;
-          keptFits = omega arith;
-          used = le;
-          kept = ap₂ _+_ g₅ lf ∙ sym (length-append (journal-of cs) (entryOf sw W (c .node) (c .replacement) (text-of cs)));
-          texts = take-withText (b .used) new (b .text) ∙ e;
-          journals = take-overwritten (b .kept) more (b .journal) m ∙ ap₂ _++_ (sh .journals) f;
+          textFits = omega arith;
+          journalFits = omega arith;
+          textUsed = le;
+          journalUsed = ap₂ _+_ g₅ lf ∙ sym (length-append (journal-of cs) (entryOf sw W (c .node) (c .replacement) (text-of cs)));
+          texts = take-withText (b .used .text) new (b .text) ∙ e;
+          journals = take-overwritten (b .used .journal) more (b .journal) m ∙ ap₂ _++_ (sh .journals) f;
           force = (sh .force, ac .isNode, g₁, ac .reads′);
         }
 
@@ -170,14 +167,14 @@ module _ (sw : Switches) where
     -- the two branches of a decision
     decided-same : (cs after : List Correction) (b new : Lent) (n : ℕ) (z : Bool) → eqb n 0 ≡ z → Shared cs b
         → (n ≡ 0 → Shared after new) → Same cs b n (cond z after cs) (decided sw W b n new)
-    unfolding decided answered handedOn
+    unfolding decided resultOf handedOn
     decided-same cs after b new n true e sh k =
         let n0 : n ≡ 0 = eqb-true n 0 e in
-        let r : decided sw W b n new ≡ answered sw W 0 0 new = ap (λ (x : Bool). cond x (answered sw W 0 0 new) (answered sw W n 0 b)) e in
+        let r : decided sw W b n new ≡ resultOf sw W 0 0 new = ap (λ (x : Bool). cond x (resultOf sw W 0 0 new) (resultOf sw W n 0 b)) e in
         subst (λ (res : Result). Same cs b n after res) (sym r)
-        (subst (λ (m : ℕ). seenOf (answered sw W 0 0 new) ≡ told sw room first m after) (sym n0) (seen-told after new 0 (k n0)), k n0)
+        (subst (λ (m : ℕ). seenOf (resultOf sw W 0 0 new) ≡ told sw room first m after) (sym n0) (seen-told after new 0 (k n0)), k n0)
     decided-same cs after b new n false e sh k =
-        let r : decided sw W b n new ≡ answered sw W n 0 b = ap (λ (x : Bool). cond x (answered sw W 0 0 new) (answered sw W n 0 b)) e in
+        let r : decided sw W b n new ≡ resultOf sw W n 0 b = ap (λ (x : Bool). cond x (resultOf sw W 0 0 new) (resultOf sw W n 0 b)) e in
         subst (λ (res : Result). Same cs b n cs res) (sym r) (seen-told cs b n sh, sh)
 
     pub correct-same : (cs : List Correction) (b : Lent) (c : Correction) → Shared cs b
@@ -185,10 +182,10 @@ module _ (sw : Switches) where
     unfolding correct
     correct-same cs b c sh =
         let total : ℕ = length (journal-of cs) + length (entryOf sw W (c .node) (c .replacement) (text-of cs)) in
-        let ch : ℕ = chain W c (text-of cs) (room .text) total (room .journal) in
+        let ch : ℕ = refusalBy W c (text-of cs) (room .text) total (room .journal) in
         let p : correct sw W b (c .node) (c .replacement) ≡ decided sw W b (bookRefusal sw room first cs c) (withCorrection sw W b (c .node) (c .replacement)) =
         shared-decided cs b (correctionRefusal sw W b (c .node) (c .replacement)) (withCorrection sw W b (c .node) (c .replacement)) sh
-        ∙ ap (λ (n : ℕ). decided sw W b n (withCorrection sw W b (c .node) (c .replacement))) (chain-lent cs b c sh ∙ sym (chain-book cs c)) in
+        ∙ ap (λ (n : ℕ). decided sw W b n (withCorrection sw W b (c .node) (c .replacement))) (lent-refusal cs b c sh ∙ sym (book-refusal cs c)) in
         subst (λ (res : Result). Same cs b (bookRefusal sw room first cs c) (cond (eqb (bookRefusal sw room first cs c) 0) (c ∷ cs) cs) res) (sym p)
         (decided-same cs (c ∷ cs) b (withCorrection sw W b (c .node) (c .replacement)) (bookRefusal sw room first cs c) (eqb (bookRefusal sw room first cs c) 0) refl sh
-        (λ e. withCorrection-shared cs b c sh (accepted W c (text-of cs) (room .text) total (room .journal) (sym (chain-book cs c) ∙ e))))
+        (λ e. withCorrection-shared cs b c sh (accepted W c (text-of cs) (room .text) total (room .journal) (sym (book-refusal cs c) ∙ e))))

@@ -29,7 +29,7 @@ call s start stop = C.contentCall presentEdition start stop (ascii s) (replicate
 
 -- `[1, null]` in a text buffer of 16 bytes, with an empty journal of 20, where all other bytes hold 1: node 2 replaced by `12.5`
 abbrev pub replaced : E.Result
-replaced = E.correct presentEdition (nodeWords * 10) (E.lentOf (ascii "[1, null]" ++ replicate 7 1) 9 (replicate 20 1) 0) 2 (ascii "12.5")
+replaced = E.correct presentEdition (nodeWords * 10) (E.lentOf (ascii "[1, null]" ++ replicate 7 1) (replicate 20 1) (E.inUse 9 0)) 2 (ascii "12.5")
 
 pub record Starred : Type 0 where
   -- "empty text: 7 at 0"
@@ -67,7 +67,7 @@ pub record Starred : Type 0 where
   -- "`[r#""##]`: 3 at 6"
   pub hash-left : read "[r#\"\"##]" ≡ refused 3 6
   -- "Node 2 there, replaced by `12.5`: `[1, 12.5]`, journal 6E 75 6C 6C 04 00 00 00 04 00 00 00 10 00 00 00"
-  pub correction : replaced .answer ≡ record { number = 0; place = 0; nodes = 3; used = 9; kept = 16 }
+  pub correction : replaced .answer ≡ record { number = 0; place = 0; nodes = 3; used = E.inUse 9 16 }
   pub correction-text : replaced .lent .text ≡ ascii "[1, 12.5]" ++ replicate 7 1
   pub correction-journal :
       replaced .lent .journal

@@ -17,7 +17,7 @@ use Rattle.reader.specs.Syntax.{Outcome, taken, refused}
 use Rattle.reader.specs.Reading.{reading, reads, isTaken, nodeCount, oneValue, maxText}
 use Rattle.reader.proofs.LimitLaws.{Limit, deep, many, Fair}
 use Rattle.reader.proofs.ReplaceLaws.{replaced-reading}
-use Rattle.editor.specs.Edit.{Lent, lentOf, Result, textOf, splice, noRoom, badLength, lengthRefused, answered, decided, startOf, stopOf, corrected, entryOf, correctionRefusal, withCorrection, correct}
+use Rattle.editor.specs.Edit.{Lent, lentOf, inUse, Result, textOf, splice, noRoom, badLength, lengthRefused, resultOf, decided, startOf, stopOf, corrected, entryOf, correctionRefusal, withCorrection, correct}
 use Rattle.editor.proofs.CallLaws.{once-read}
 use Rattle.editor.proofs.Computing.{editing}
 
@@ -67,7 +67,7 @@ module _ (sw : Switches) (words : ℕ) where
       cond-case Is16 Goal (leb (nodeCount (reading sw words (textOf b))) node) e (λ _ q. absurd (omega arith))
       (λ no-12 e₁. cond-case Is16 Goal (not (oneValue sw (ltb 0 node) replacement)) e₁ (λ _ q. absurd (omega arith))
       (λ no-13 e₂. cond-case Is16 Goal (noRoom (corrected sw words node replacement (textOf b)) (length (b .text))) e₂ (λ _ q. absurd (omega arith))
-      (λ no-14 e₃. cond-case Is16 Goal (ltb (length (b .journal)) (b .kept + length (entryOf sw words node replacement (textOf b)))) e₃
+      (λ no-14 e₃. cond-case Is16 Goal (ltb (length (b .journal)) (b .used .journal + length (entryOf sw words node replacement (textOf b)))) e₃
       (λ _ q. absurd (omega arith))
       (λ no-15 e₄. cond-case Is16 Goal (not (isTaken new)) e₄
       (λ not-read _. cause (not-true (isTaken new) not-read) refl
@@ -93,7 +93,7 @@ module _ (sw : Switches) (words : ℕ) where
   numberOf r = r .answer .number
 
   decided-16 : (b : Lent) (refusal : ℕ) (new : Lent) → numberOf (decided sw words b refusal new) ≡ 16 → refusal ≡ 16
-  unfolding decided answered
+  unfolding decided resultOf
   decided-16 b refusal new e =
       cond-case (λ (r : Result). numberOf r ≡ 16) (refusal ≡ 16) (eqb refusal 0) e (λ _ q. absurd (omega arith)) (λ _ q. q)
 
@@ -112,7 +112,7 @@ module _ (sw : Switches) (words : ℕ) where
 
 -- a text with 8 bytes more in its buffer, and a journal of 32
 abbrev given : List ℕ → Lent
-given text = lentOf (text ++ replicate 8 0) (length text) (replicate 32 0) 0
+given text = lentOf (text ++ replicate 8 0) (replicate 32 0) (inUse (length text) 0)
 
 -- `[1]`, in a table of two nodes
 abbrev small : Lent

@@ -9,8 +9,8 @@ use lib.ListN.{length, take, replicate}
 use lib.Seq.{length-take-le}
 use Rattle.text.specs.declared.switches.Switches.{Switches}
 use Rattle.reader.specs.Reading.{reading, reads, tableOf}
-use Rattle.editor.specs.Edit.{Lent, Result, textOf, journalOf, answered, decided, undoRefusal, withUndo, undo}
-use Rattle.editor.specs.Book.{Correction, Call, correction, undoing, Room, Seen, bookText, bookJournal, told, bookAfter, bookNumber, inForce, book, handedOn, seenOf, called, calls, after, roomOf, Fresh, Demand3}
+use Rattle.editor.specs.Edit.{Lent, Report, Result, textOf, journalOf, resultOf, decided, undoRefusal, withUndo, undo}
+use Rattle.editor.specs.Book.{Correction, Call, correction, undoing, Room, Seen, bookText, bookJournal, told, bookAfter, bookNumber, inForce, book, handedOn, seenOf, called, calls, after, roomOf, Start, Demand3}
 use Rattle.text.proofs.Choice.{is-true}
 use Rattle.editor.proofs.ReadLaws.{reads-short}
 use Rattle.editor.proofs.BookLaws.{AllAccepted, Shared, Same, seen-told, shared-decided, correct-same}
@@ -24,14 +24,14 @@ module _ (sw : Switches) (room : Room) (first : List ℕ) where
 
   call-same : (cs : List Correction) (b : Lent) (k : Call) → Shared sw room first cs b
       → Same sw room first cs b (bookNumber sw room first cs k) (bookAfter sw room first cs k) (called sw W b k)
-  unfolding bookNumber bookAfter called undo decided answered handedOn
+  unfolding bookNumber bookAfter called undo decided resultOf handedOn
   call-same cs b (correction c) sh = correct-same sw room first cs b c sh
   call-same [] b undoing sh =
-      let p : undo sw W b ≡ answered sw W 17 0 b =
+      let p : undo sw W b ≡ resultOf sw W 17 0 b =
       shared-decided sw room first [] b (undoRefusal sw W b) (withUndo b) sh ∙ ap (λ (n : ℕ). decided sw W b n (withUndo b)) (undo-none sw room first b sh) in
       subst (λ (res : Result). Same sw room first [] b 17 [] res) (sym p) (seen-told sw room first [] b 17 sh, sh)
   call-same (c ∷ cs) b undoing sh =
-      let p : undo sw W b ≡ answered sw W 0 0 (withUndo b) =
+      let p : undo sw W b ≡ resultOf sw W 0 0 (withUndo b) =
       shared-decided sw room first (c ∷ cs) b (undoRefusal sw W b) (withUndo b) sh ∙ ap (λ (n : ℕ). decided sw W b n (withUndo b)) (undo-some sw room first c cs (sh .force) b sh) in
       let new : Shared sw room first cs (withUndo b) = withUndo-shared sw room first c cs (sh .force) b sh in
       subst (λ (res : Result). Same sw room first (c ∷ cs) b 0 cs res) (sym p) (seen-told sw room first cs (withUndo b) 0 new, new)
@@ -63,21 +63,21 @@ module _ (sw : Switches) (room : Room) (first : List ℕ) where
 
 -- ---- the start
 
-fresh-shared : (sw : Switches) (words : ℕ) (b : Lent) → Fresh sw words b → Shared sw (roomOf words b) (textOf b) [] b
+start-shared : (sw : Switches) (words : ℕ) (b : Lent) → Start sw words b → Shared sw (roomOf words b) (textOf b) [] b
 unfolding roomOf textOf journalOf bookText bookJournal AllAccepted
-fresh-shared sw words b f =
+start-shared sw words b f =
     let r : reads sw words (textOf b) ≡ true = is-true (reads sw words (textOf b)) (f .first-reads) in
     let s = reads-short sw words (textOf b) r in
     let w = f .within in
-    let l : length (textOf b) ≡ b .used = length-take-le (b .used) (b .text) w in
+    let l : length (textOf b) ≡ b .used .text = length-take-le (b .used .text) (b .text) w in
     let z = f .empty in
     record {
       textRoom = refl;
       journalRoom = refl;
-      usedFits = w;
-      keptFits = omega arith;
-      used = sym l;
-      kept = z;
+      textFits = w;
+      journalFits = omega arith;
+      textUsed = sym l;
+      journalUsed = z;
       texts = refl;
       journals = ap (λ (n : ℕ). take n (b .journal)) z;
       force = (omega arith, r);
@@ -86,9 +86,9 @@ fresh-shared sw words b f =
 -- ---- demand 3
 
 -- Document 00's sentences, and where each stands in `Demand3` (specs/Book.antt):
--- "Start with a text that reads and an empty journal."  `Fresh`, on buffers of any lengths that hold any bytes past the lengths in use.
+-- "Start with a text that reads and an empty journal."  `Start`, on buffers of any lengths that hold any bytes past the lengths in use.
 -- "Take any list of corrections and undos, refused ones included, with any node numbers and replacements."  `ks`, any list of `Call`.
--- "Each call gets the text, journal and table buffers as the last one left them, and the lengths last answered. Nobody else writes them
+-- "Each call gets the text, journal and table buffers as the last one left them, and the lengths last resultOf. Nobody else writes them
 --   meanwhile."  `calls`, by `handedOn`.
 -- "After every such list the text is the first text with the corrections in force made in order"  the `text` that `told` gives, `bookText`.
 -- "and the table that its last call left is that text's reading."  the `table` that `told` gives: of the last call, as of each before it.
@@ -108,7 +108,7 @@ fresh-shared sw words b f =
 --   for each call.
 pub demand-3 : (sw : Switches) → Demand3 sw
 unfolding Demand3 roomOf
-demand-3 sw words b fresh ks = all-same sw (roomOf words b) (textOf b) [] b ks (fresh-shared sw words b fresh)
+demand-3 sw words b start ks = all-same sw (roomOf words b) (textOf b) [] b ks (start-shared sw words b start)
 
 -- ---- what follows of the buffers and of the next call, after any list of calls
 
@@ -124,10 +124,10 @@ module _ (sw : Switches) (words : ℕ) (b : Lent) where
   abbrev pub lent : List Call → Lent
   lent ks = after sw words b ks
 
-  module _ (fresh : Fresh sw words b) (ks : List Call) where
+  module _ (start : Start sw words b) (ks : List Call) where
     lent-shared : Shared sw room (textOf b) (force ks) (lent ks)
     unfolding roomOf
-    lent-shared = all-shared sw room (textOf b) [] b ks (fresh-shared sw words b fresh)
+    lent-shared = all-shared sw room (textOf b) [] b ks (start-shared sw words b start)
 
     next-same : (k : Call)
         → Same sw room (textOf b) (force ks) (lent ks) (bookNumber sw room (textOf b) (force ks) k) (bookAfter sw room (textOf b) (force ks) k)
@@ -147,13 +147,13 @@ module _ (sw : Switches) (words : ℕ) (b : Lent) where
         → called sw words (lent ks) k .table ≡ tableOf words (reading sw words (textOf (handedOn (called sw words (lent ks) k))))
     unfolding roomOf told seenOf
     table-next k =
-        ap (λ (s : Seen). s .table) (next-same k .0)
+        ap (λ (s : Seen Report). s .table) (next-same k .0)
         ∙ ap (λ (t : List ℕ). tableOf words (reading sw words t)) (sym (next-same k .1 .texts))
 
     -- "A correction is refused exactly when document 01 says": the number is the book's
     pub number-next : (k : Call) → called sw words (lent ks) k .answer .number ≡ bookNumber sw room (textOf b) (force ks) k
     unfolding told seenOf
-    number-next k = ap (λ (s : Seen). s .answer .number) (next-same k .0)
+    number-next k = ap (λ (s : Seen Report). s .answer .number) (next-same k .0)
 
     -- "an undo exactly when none is in force": it is refused with 17 then
     pub undo-refused : force ks ≡ [] → called sw words (lent ks) undoing .answer .number ≡ 17
@@ -170,9 +170,9 @@ module _ (sw : Switches) (words : ℕ) (b : Lent) where
         go (c ∷ cs) e = absurd (refusal (number-next undoing ∙ ap (λ (ds : List Correction). bookNumber sw room (textOf b) ds undoing) e))
 
   -- "Undoing all in force gives back the first text byte for byte"
-  pub undo-all : Fresh sw words b → (ks : List Call) → textOf (lent (ks ++ replicate (length (force ks)) undoing)) ≡ textOf b
+  pub undo-all : Start sw words b → (ks : List Call) → textOf (lent (ks ++ replicate (length (force ks)) undoing)) ≡ textOf b
   unfolding bookText
-  undo-all fresh ks =
+  undo-all start ks =
       let undos : List Call = replicate (length (force ks)) undoing in
       let none : force (ks ++ undos) ≡ [] = force-append sw room (textOf b) [] ks undos ∙ force-undone sw room (textOf b) (force ks) in
-      text-after fresh (ks ++ undos) ∙ ap (bookText sw room (textOf b)) none
+      text-after start (ks ++ undos) ∙ ap (bookText sw room (textOf b)) none

@@ -8,7 +8,7 @@ use mathlib.Core.List.{List, [], _++_}
 use lib.Dec.{lit<}
 use lib.ListN.{length, drop, length-append}
 use lib.Seq.{drop-append-add}
-use Rattle.editor.specs.Edit.{le32, fromLe32, trailer, trailerNumber, entryStart, entryNew, entrySize}
+use Rattle.editor.specs.Edit.{le32, fromLe32, trailer, trailerBytes, trailerNumber, entryStart, entryNew, entrySize}
 
 sum4 : (n q₁ q₂ q₃ r₀ r₁ r₂ r₃ : ℕ) → q₁ * 256 + r₀ ≡ n → q₂ * 256 + r₁ ≡ q₁ → q₃ * 256 + r₂ ≡ q₂ → r₃ ≡ q₃
     → r₀ + r₁ * 256 + r₂ * 65536 + r₃ * 16777216 ≡ n
@@ -27,7 +27,7 @@ pub from-le32 : (n : ℕ) (l : List ℕ) → n < 4294967296 → fromLe32 (le32 n
 unfolding fromLe32 le32
 from-le32 n l h = le32-sum n h
 
-pub length-trailer : (a m o : ℕ) → length (trailer a m o) ≡ 12
+pub length-trailer : (a m o : ℕ) → length (trailer a m o) ≡ trailerBytes
 unfolding trailer le32
 length-trailer a m o = refl
 
@@ -36,19 +36,19 @@ trailer-at : (x : List ℕ) (a m o : ℕ) (i : ℕ) → i ≤ 2
     → trailerNumber i (x ++ trailer a m o) ≡ fromLe32 (drop (4 * i) (trailer a m o))
 unfolding trailerNumber
 trailer-at x a m o i h =
-    let n : length (x ++ trailer a m o) ≡ length x + 12 = length-append x (trailer a m o) ∙ ap (λ (k : ℕ). length x + k) (length-trailer a m o) in
-    let e : length (x ++ trailer a m o) - 12 + 4 * i ≡ length x + 4 * i = omega arith in
+    let n : length (x ++ trailer a m o) ≡ length x + trailerBytes = length-append x (trailer a m o) ∙ ap (λ (k : ℕ). length x + k) (length-trailer a m o) in
+    let e : length (x ++ trailer a m o) - trailerBytes + 4 * i ≡ length x + 4 * i = omega arith in
     ap (λ (k : ℕ). fromLe32 (drop k (x ++ trailer a m o))) e
     ∙ ap fromLe32 (drop-append-add x (trailer a m o) (4 * i))
 
 pub trailer-start : (x : List ℕ) (a m o : ℕ) → a < 4294967296 → entryStart (x ++ trailer a m o) ≡ a
 unfolding trailer le32
-trailer-start x a m o h = trailer-at x a m o 0 (omega arith) ∙ from-le32 a (le32 m ++ le32 (o + 12)) h
+trailer-start x a m o h = trailer-at x a m o 0 (omega arith) ∙ from-le32 a (le32 m ++ le32 (o + trailerBytes)) h
 
 pub trailer-new : (x : List ℕ) (a m o : ℕ) → m < 4294967296 → entryNew (x ++ trailer a m o) ≡ m
 unfolding trailer le32
-trailer-new x a m o h = trailer-at x a m o 1 (omega arith) ∙ from-le32 m (le32 (o + 12)) h
+trailer-new x a m o h = trailer-at x a m o 1 (omega arith) ∙ from-le32 m (le32 (o + trailerBytes)) h
 
-pub trailer-size : (x : List ℕ) (a m o : ℕ) → o + 12 < 4294967296 → entrySize (x ++ trailer a m o) ≡ o + 12
+pub trailer-size : (x : List ℕ) (a m o : ℕ) → o + trailerBytes < 4294967296 → entrySize (x ++ trailer a m o) ≡ o + trailerBytes
 unfolding trailer le32
-trailer-size x a m o h = trailer-at x a m o 2 (omega arith) ∙ from-le32 (o + 12) [] h
+trailer-size x a m o h = trailer-at x a m o 2 (omega arith) ∙ from-le32 (o + trailerBytes) [] h

@@ -6,7 +6,7 @@ use native.Mathlib.Omega.{arith}
 use mathlib.Core.List.{List, _++_, append-assoc}
 use lib.ListN.{length, take, drop, getD, set, length-append}
 use lib.Seq.{sets-eq, getD-drop}
-use Rattle.editor.specs.Edit.{le32, fromLe32, trailer, overwritten}
+use Rattle.editor.specs.Edit.{le32, fromLe32, trailer, trailerBytes, overwritten}
 use Rattle.editor.proofs.BufferLaws.{over-join}
 
 -- the four stores
@@ -36,21 +36,21 @@ unfolding le32
 length-le32 n = refl
 
 -- the old bytes, and the three numbers of the trailer
-pub entry-put : (d old : List ℕ) (kept start new : ℕ) → kept + length old + 12 ≤ length d
-    → overwritten (kept + length old + 8) (le32 (length old + 12))
-    (overwritten (kept + length old + 4) (le32 new) (overwritten (kept + length old) (le32 start) (overwritten kept old d)))
-    ≡ overwritten kept (old ++ trailer start new (length old)) d
+pub entry-put : (d old : List ℕ) (at start new : ℕ) → at + length old + trailerBytes ≤ length d
+    → overwritten (at + length old + 8) (le32 (length old + trailerBytes))
+    (overwritten (at + length old + 4) (le32 new) (overwritten (at + length old) (le32 start) (overwritten at old d)))
+    ≡ overwritten at (old ++ trailer start new (length old)) d
 unfolding trailer
-entry-put d old kept start new h =
+entry-put d old at start new h =
     let a : List ℕ = le32 start in
     let b : List ℕ = le32 new in
-    let c : List ℕ = le32 (length old + 12) in
+    let c : List ℕ = le32 (length old + trailerBytes) in
     let la = length-le32 start in
     let lb = length-le32 new in
     let l₁ = length-append old a in
     let l₂ = length-append (old ++ a) b in
-    ap (λ (x : List ℕ). overwritten (kept + length old + 8) c (overwritten (kept + length old + 4) b x))
-    (over-join kept old a d (kept + length old) refl (omega arith))
-    ∙ ap (overwritten (kept + length old + 8) c) (over-join kept (old ++ a) b d (kept + length old + 4) (omega arith) (omega arith))
-    ∙ over-join kept (old ++ a ++ b) c d (kept + length old + 8) (omega arith) (omega arith)
-    ∙ ap (λ (x : List ℕ). overwritten kept x d) (append-assoc (old ++ a) b c ∙ append-assoc old a (b ++ c))
+    ap (λ (x : List ℕ). overwritten (at + length old + 8) c (overwritten (at + length old + 4) b x))
+    (over-join at old a d (at + length old) refl (omega arith))
+    ∙ ap (overwritten (at + length old + 8) c) (over-join at (old ++ a) b d (at + length old + 4) (omega arith) (omega arith))
+    ∙ over-join at (old ++ a ++ b) c d (at + length old + 8) (omega arith) (omega arith)
+    ∙ ap (λ (x : List ℕ). overwritten at x d) (append-assoc (old ++ a) b c ∙ append-assoc old a (b ++ c))

@@ -5,13 +5,14 @@ pub mod BufferLaws
 pub mod JournalLaws
 pub mod ReadLaws
 pub mod CallLaws
+pub mod TrialLaws
 pub mod CorrectLaws
 pub mod LastEntryLaws
 pub mod UndoCallLaws
 pub mod BookLaws
 pub mod UndoLaws
 pub mod Demand3
-pub mod Shown
+pub mod MadeLaws
 pub mod Cause
 pub mod Computing
 pub mod Cases

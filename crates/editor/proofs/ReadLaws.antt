@@ -13,8 +13,9 @@ use Rattle.text.specs.declared.switches.Switches.{Switches}
 use Rattle.text.specs.Utf8.{utf8, isWhole, wholeFront}
 use Rattle.lexer.specs.Token.{tokens}
 use Rattle.reader.specs.declared.tree.Limits.{Limits}
+use Rattle.reader.specs.Tree.{nodeWords}
 use Rattle.reader.specs.Syntax.{Outcome, refused, run, before}
-use Rattle.reader.specs.Reading.{reading, reads, isTaken, outcome, limitsOf, limitsAlone, nodeCount, spans, oneValue, maxText}
+use Rattle.reader.specs.Reading.{reading, reads, isTaken, outcome, limitsOf, nodeCount, maxText}
 use Rattle.reader.proofs.SizeLaws.{count-law}
 
 -- a text over 65,536 bytes is refused, whatever is asked
@@ -33,14 +34,9 @@ pub reads-short : (sw : Switches) (words : ℕ) (t : List ℕ) → reads sw word
 unfolding reads reading isTaken
 reads-short sw words t e = short-or sw false (limitsOf words) t isTaken refl e
 
--- one value alone
-pub value-short : (sw : Switches) (any : Bool) (t : List ℕ) → oneValue sw any t ≡ true → length t ≤ maxText
-unfolding oneValue spans
-value-short sw any t e = short-or sw any limitsAlone t (spans (length t)) refl e
-
 -- the words of a node lie in the table
-pub row-within : (sw : Switches) (words node : ℕ) (t : List ℕ) → node < nodeCount (reading sw words t) → 12 * node + 12 ≤ words
+pub row-within : (sw : Switches) (words node : ℕ) (t : List ℕ) → node < nodeCount (reading sw words t) → nodeWords * node + nodeWords ≤ words
 row-within sw words node t h =
     let c = count-law sw words t in
-    let d = div-mul-le-self words 12 in
+    let d = div-mul-le-self words nodeWords in
     omega arith

@@ -13,7 +13,7 @@ use Rattle.text.specs.declared.switches.Switches.{Switches}
 use Rattle.reader.specs.Reading.{reads, maxText}
 use Rattle.reader.specs.Content.{part}
 use Rattle.reader.proofs.SpanLaws.{span-law}
-use Rattle.editor.specs.Edit.{Lent, textOf, journalOf, splice, startOf, stopOf, corrected, trailer, entry, entryOf, withText, noRoom, entryStart, entryNew, entrySize, badEntry, oldBytes, undone, undoRefusal, withUndo}
+use Rattle.editor.specs.Edit.{Lent, textOf, journalOf, splice, trailerBytes, startOf, stopOf, corrected, trailer, entry, entryOf, withText, noRoom, entryStart, entryNew, entrySize, badEntry, oldBytes, undone, undoRefusal, withUndo}
 use Rattle.editor.specs.Book.{Correction, Room, bookText, bookJournal}
 use Rattle.editor.proofs.SpliceLaws.{length-part, splice-back, length-splice, length-withText, take-withText}
 use Rattle.editor.proofs.EntryLaws.{length-trailer, trailer-start, trailer-new, trailer-size}
@@ -34,7 +34,7 @@ module _ (sw : Switches) (room : Room) (first : List ℕ) where
   unfolding undoRefusal bookJournal
   undo-none b sh =
       ap (λ (x : Bool). cond x 17 (cond (badEntry (journalOf b) (textOf b)) 18 (cond (noRoom (undone (journalOf b) (textOf b)) (length (b .text))) 14 (cond (not (reads sw W (undone (journalOf b) (textOf b)))) 16 0))))
-      (eq-eqb (b .kept) 0 (sh .kept))
+      (eq-eqb (b .used .journal) 0 (sh .journalUsed))
 
   -- the last correction in force: its entry is the journal's last, and what it puts back is the text before
   module _ (c : Correction) (cs : List Correction) (force : B.AllAccepted sw room first (c ∷ cs)) where
@@ -77,7 +77,7 @@ module _ (sw : Switches) (room : Room) (first : List ℕ) where
         let k = new-short in
         ap entryNew journal-is ∙ trailer-new front from (length (c .replacement)) (to - from) (omega arith)
 
-    size-is : entrySize (journal-of (c ∷ cs)) ≡ to - from + 12
+    size-is : entrySize (journal-of (c ∷ cs)) ≡ to - from + trailerBytes
     size-is =
         let h = spanned in
         let k = short in
@@ -88,7 +88,7 @@ module _ (sw : Switches) (room : Room) (first : List ℕ) where
         length-append (journal-of cs) (part from to (text-of cs))
         ∙ ap (λ (n : ℕ). length (journal-of cs) + n) (length-part from to (text-of cs) (spanned .0) (spanned .1))
 
-    journal-length : length (journal-of (c ∷ cs)) ≡ length (journal-of cs) + (to - from + 12)
+    journal-length : length (journal-of (c ∷ cs)) ≡ length (journal-of cs) + (to - from + trailerBytes)
     journal-length =
         let a = ap length journal-is in
         let d = length-append front (trailer from (length (c .replacement)) (to - from)) in
@@ -103,7 +103,7 @@ module _ (sw : Switches) (room : Room) (first : List ℕ) where
         let l = journal-length in
         let z = size-is in
         let a : length j - entrySize j ≡ length (journal-of cs) = omega arith in
-        let d : length j - 12 ≡ length (journal-of cs) + (to - from) = omega arith in
+        let d : length j - trailerBytes ≡ length (journal-of cs) + (to - from) = omega arith in
         let w : length (journal-of cs) + (to - from) - length (journal-of cs) ≡ to - from = omega arith in
         ap₂ (λ (x y : ℕ). part x y j) a d
         ∙ ap (λ (n : ℕ). take n (drop (length (journal-of cs)) j)) w
@@ -127,8 +127,8 @@ module _ (sw : Switches) (room : Room) (first : List ℕ) where
         let s = start-is in
         let n = new-is in
         let m = length-splice from to (c .replacement) (text-of cs) (spanned .0) (spanned .1) in
-        let a : ltb (length j) 12 ≡ false = le-ltb (length j) 12 (omega arith) in
-        let d : ltb (entrySize j) 12 ≡ false = le-ltb (entrySize j) 12 (omega arith) in
+        let a : ltb (length j) trailerBytes ≡ false = le-ltb (length j) trailerBytes (omega arith) in
+        let d : ltb (entrySize j) trailerBytes ≡ false = le-ltb (entrySize j) trailerBytes (omega arith) in
         let e : ltb (length j) (entrySize j) ≡ false = le-ltb (length j) (entrySize j) (omega arith) in
         let f : ltb (length t) (entryStart j + entryNew j) ≡ false = le-ltb (length t) (entryStart j + entryNew j) (omega arith) in
         (λ i. a i || d i || e i || f i)
@@ -143,11 +143,11 @@ module _ (sw : Switches) (room : Room) (first : List ℕ) where
         let new : List ℕ = undone (journalOf b) (textOf b) in
         let u : new ≡ text-of cs = undone-lent b sh in
         let l = journal-length in
-        let k = sh .kept in
+        let k = sh .journalUsed in
         let r = sh .textRoom in
         let h = B.in-room sw room first cs (force .0) in
         let lu : length new ≡ length (text-of cs) = ap length u in
-        let a : eqb (b .kept) 0 ≡ false = ne-eqb (b .kept) 0 (λ z. omega arith) in
+        let a : eqb (b .used .journal) 0 ≡ false = ne-eqb (b .used .journal) 0 (λ z. omega arith) in
         let d : badEntry (journalOf b) (textOf b) ≡ false = ap₂ badEntry (sh .journals) (sh .texts) ∙ entry-good in
         let e : noRoom new (length (b .text)) ≡ false = le-ltb (min (length (b .text)) maxText) (length new) (omega arith) in
         let f : not (reads sw W new) ≡ false = ap (λ (t : List ℕ). not (reads sw W t)) u ∙ ap not (B.in-reads sw room first cs (force .0)) in
@@ -160,27 +160,27 @@ module _ (sw : Switches) (room : Room) (first : List ℕ) where
         let u : new ≡ text-of cs = undone-lent b sh in
         let lu : length new ≡ length (text-of cs) = ap length u in
         let l = journal-length in
-        let z : entrySize (journalOf b) ≡ to - from + 12 = ap entrySize (sh .journals) ∙ size-is in
-        let k = sh .kept in
-        let kf = sh .keptFits in
-        let uf = sh .usedFits in
+        let z : entrySize (journalOf b) ≡ to - from + trailerBytes = ap entrySize (sh .journals) ∙ size-is in
+        let k = sh .journalUsed in
+        let kf = sh .journalFits in
+        let uf = sh .textFits in
         let r = sh .textRoom in
         let h = B.in-room sw room first cs (force .0) in
         let n : length new ≤ length (b .text) = omega arith in
-        let lt : length (withText (b .used) new (b .text)) ≡ length (b .text) = length-withText (b .used) new (b .text) uf n in
-        let kn : b .kept - entrySize (journalOf b) ≡ length (journal-of cs) = omega arith in
-        let kl : length (journal-of cs) ≤ b .kept = omega arith in
+        let lt : length (withText (b .used .text) new (b .text)) ≡ length (b .text) = length-withText (b .used .text) new (b .text) uf n in
+        let kn : b .used .journal - entrySize (journalOf b) ≡ length (journal-of cs) = omega arith in
+        let kl : length (journal-of cs) ≤ b .used .journal = omega arith in
         record {
           textRoom = lt ∙ r;
           journalRoom = sh .journalRoom;
-          usedFits = omega arith;
-          keptFits = omega arith;
-          used = lu;
-          kept = kn;
-          texts = take-withText (b .used) new (b .text) ∙ u;
+          textFits = omega arith;
+          journalFits = omega arith;
+          textUsed = lu;
+          journalUsed = kn;
+          texts = take-withText (b .used .text) new (b .text) ∙ u;
           journals =
               ap (λ (m : ℕ). take m (b .journal)) kn
-              ∙ sym (take-take (length (journal-of cs)) (b .kept) (b .journal) kl)
+              ∙ sym (take-take (length (journal-of cs)) (b .used .journal) (b .journal) kl)
               ∙ ap (take (length (journal-of cs))) (sh .journals)
               ∙ take-at (journal-of cs) (entryOf sw W (c .node) (c .replacement) (text-of cs)) (length (journal-of cs)) refl;
           force = force .0;

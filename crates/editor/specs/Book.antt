@@ -8,7 +8,7 @@ use lib.Dec.{T, leb, ltb, eqb}
 use lib.ListN.{length}
 use Rattle.text.specs.declared.switches.Switches.{Switches}
 use Rattle.reader.specs.Reading.{reading, reads, nodeCount, tableOf, oneValue, maxText}
-use Rattle.editor.specs.Edit.{Lent, lentOf, Answer, Result, textOf, journalOf, corrected, entryOf, correct, undo}
+use Rattle.editor.specs.Edit.{Lent, lentOf, inUse, Report, Result, textOf, journalOf, corrected, entryOf, correct, undo}
 
 -- "each a node number and a replacement"
 pub record Correction : Type 0 where
@@ -26,9 +26,9 @@ pub record Room : Type 0 where
   pub journal : ℕ
   pub words : ℕ
 
--- what is compared after a call: the answer, the text in use, the journal in use and the whole table
-pub record Seen : Type 0 where
-  pub answer : Answer
+-- what is compared after a call: the answer, in the form in which it is given, the text in use, the journal in use and the whole table
+pub record Seen (Form : Type 0) : Type 0 where
+  pub answer : Form
   pub text : List ℕ
   pub journal : List ℕ
   pub table : List ℕ
@@ -58,15 +58,14 @@ module _ (sw : Switches) (room : Room) (first : List ℕ) where
       0))))
 
   -- "Each answer is the refusal, at 0, or none; then the node count .. that text's length and the total length of the entries"
-  unfoldable pub told : (refusal : ℕ) → List Correction → Seen
+  unfoldable pub told : (refusal : ℕ) → List Correction → Seen Report
   told refusal cs =
       record {
         answer = record {
           number = refusal;
           place = 0;
           nodes = nodeCount (reading sw (room .words) (bookText cs));
-          used = length (bookText cs);
-          kept = length (bookJournal cs);
+          used = inUse (length (bookText cs)) (length (bookJournal cs));
         };
         text = bookText cs;
         journal = bookJournal cs;
@@ -92,7 +91,7 @@ module _ (sw : Switches) (room : Room) (first : List ℕ) where
   inForce cs (k ∷ ks) = inForce (bookAfter cs k) ks
 
   -- what the book says after each call of a list
-  unfoldable pub book : List Correction → List Call → List Seen
+  unfoldable pub book : List Correction → List Call → List (Seen Report)
   book cs [] = []
   book cs (k ∷ ks) = told (bookNumber cs k) (bookAfter cs k) ∷ book (bookAfter cs k) ks
 
@@ -101,10 +100,10 @@ module _ (sw : Switches) (room : Room) (first : List ℕ) where
 -- demand 3: "Each call gets the text, journal and table buffers as the last one left them, and the lengths last answered". Of the table a
 -- call takes the count of its words alone, and every table that is left has as many (`table-law`).
 unfoldable pub handedOn : Result → Lent
-handedOn r = lentOf (r .lent .text) (r .answer .used) (r .lent .journal) (r .answer .kept)
+handedOn r = lentOf (r .lent .text) (r .lent .journal) (r .answer .used)
 
 -- what is seen of a call: the text and the journal are those in use by the lengths it answered
-unfoldable pub seenOf : Result → Seen
+unfoldable pub seenOf : Result → Seen Report
 seenOf r = record { answer = r .answer; text = textOf (handedOn r); journal = journalOf (handedOn r); table = r .table }
 
 module _ (sw : Switches) (words : ℕ) where
@@ -114,7 +113,7 @@ module _ (sw : Switches) (words : ℕ) where
   called b undoing = undo sw words b
 
   -- what is seen after each call of a list
-  unfoldable pub calls : Lent → List Call → List Seen
+  unfoldable pub calls : Lent → List Call → List (Seen Report)
   calls b [] = []
   calls b (k ∷ ks) = seenOf (called b k) ∷ calls (handedOn (called b k)) ks
 
@@ -128,13 +127,13 @@ unfoldable pub roomOf : (words : ℕ) → Lent → Room
 roomOf words b = record { text = length (b .text); journal = length (b .journal); words = words }
 
 -- demand 3: "Start with a text that reads and an empty journal"; its length in use lies within its buffer, or there would be no text
-pub record Fresh (sw : Switches) (words : ℕ) (b : Lent) : Type 0 where
-  pub within : b .used ≤ length (b .text)
-  pub empty : b .kept ≡ 0
+pub record Start (sw : Switches) (words : ℕ) (b : Lent) : Type 0 where
+  pub within : b .used .text ≤ length (b .text)
+  pub empty : b .used .journal ≡ 0
   pub first-reads : T (reads sw words (textOf b))
 
 -- Demand 3, "a single claim about the list": every list of calls shows what the book says
 unfoldable pub Demand3 : Switches → Type 0
 Demand3 sw =
-    (words : ℕ) (b : Lent) → Fresh sw words b
+    (words : ℕ) (b : Lent) → Start sw words b
     → (ks : List Call) → calls sw words b ks ≡ book sw (roomOf words b) (textOf b) [] ks

@@ -1,4 +1,4 @@
--- Corrections and undo on the lent buffers (document 01, "Corrections"). The code answers with a struct of its own, src/edit.rt:
+-- Corrections and undo on the lent buffers (document 01, "Corrections"). The code answers with a struct of its own, src/change.rt:
 -- `changeOf` gives it.
 -- Assumes nothing.
 use Prim.Native.Nat.{ℕ, _+_, _-_, _*_, _/_, _%_, min, max}
@@ -11,69 +11,84 @@ use Rattle.text.specs.declared.switches.Switches.{Switches}
 use Rattle.reader.specs.Syntax.{Outcome, taken, refused}
 use Rattle.reader.specs.Reading.{reading, reads, nodeCount, tableOf, wordOf, oneValue, maxText}
 use Rattle.reader.specs.Content.{part}
-use Rattle.editor.specs.declared.edit.Verdict.{Verdict}
-use Rattle.editor.specs.declared.edit.Verdict.the-variants as A
-use Rattle.editor.specs.declared.edit.Change.{Change}
+use Rattle.text.specs.Refusal.{refusal}
+use Rattle.editor.specs.declared.change.InUse.{InUse}
+use Rattle.editor.specs.declared.change.Verdict.{Verdict}
+use Rattle.editor.specs.declared.change.Verdict.the-variants as A
+use Rattle.editor.specs.declared.change.Change.{Change}
 
 -- ---- what is lent, and what comes back
 
--- the text buffer with its length in use (`used`), and the journal with its own (`kept`)
+-- both lengths in use: the code's struct, src/change.rt
+abbrev pub inUse : (text journal : ℕ) → InUse
+inUse text journal = record { text = text; journal = journal }
+
+-- the text buffer and the journal, with the length in use of each
 pub record Lent : Type 0 where
   pub text : List ℕ
-  pub used : ℕ
   pub journal : List ℕ
-  pub kept : ℕ
+  pub used : InUse
 
 -- what is lent, from its parts
-abbrev pub lentOf : (text : List ℕ) (used : ℕ) (journal : List ℕ) (kept : ℕ) → Lent
-lentOf text used journal kept = record { text = text; used = used; journal = journal; kept = kept }
+abbrev pub lentOf : (text journal : List ℕ) → InUse → Lent
+lentOf text journal used = record { text = text; journal = journal; used = used }
 
 -- the text in use
 unfoldable pub textOf : Lent → List ℕ
-textOf b = take (b .used) (b .text)
+textOf b = take (b .used .text) (b .text)
 
 -- the journal in use
 unfoldable pub journalOf : Lent → List ℕ
-journalOf b = take (b .kept) (b .journal)
+journalOf b = take (b .used .journal) (b .journal)
 
--- the refusal and its place, both 0 if there is none; "Each answer gives the node count and both lengths in use"
-pub record Answer : Type 0 where
+-- an answer: the refusal and its place, both 0 if there is none; "Each answer gives the node count and both lengths in use"
+pub record Report : Type 0 where
   pub number : ℕ
   pub place : ℕ
   pub nodes : ℕ
-  pub used : ℕ
-  pub kept : ℕ
+  pub used : InUse
 
 -- an answer, what the lent buffers then hold, and the table
 pub record Result : Type 0 where
-  pub answer : Answer
+  pub answer : Report
   pub lent : Lent
   pub table : List ℕ
 
 -- the code's answer: done where there is no refusal, or else document 01's number and place
 unfoldable pub verdictOf : (number place : ℕ) → Verdict
-verdictOf number place = cond (eqb number 0) A.Done (A.Refused number place)
+verdictOf number place = cond (eqb number 0) A.Done (A.Refused (refusal number place))
 
 -- the code's answer with the node count and both lengths in use
-unfoldable pub changeOf : Answer → Change
-changeOf a = record { verdict = verdictOf (a .number) (a .place); nodes = a .nodes; used = a .used; kept = a .kept }
+unfoldable pub changeOf : Report → Change
+changeOf a = record { verdict = verdictOf (a .number) (a .place); nodes = a .nodes; used = a .used }
 
--- what a call of the code shows: its answer, and all that each buffer then holds
-pub record Shows (result : Result) (r : Change) (text journal table : List ℕ) : Type 0 where
-  pub answer : r ≡ changeOf (result .answer)
-  pub text-is : text ≡ result .lent .text
-  pub journal-is : journal ≡ result .lent .journal
-  pub table-is : table ≡ result .table
+-- what a call leaves: its answer, in the form in which it is given, and all that each buffer then holds
+pub record Left (Form : Type 0) : Type 0 where
+  pub answer : Form
+  pub text : List ℕ
+  pub journal : List ℕ
+  pub table : List ℕ
+
+-- what a call leaves, from its parts
+abbrev pub leaving : {Form : Type 0} → Form → (text journal table : List ℕ) → Left Form
+leaving answer text journal table = record { answer = answer; text = text; journal = journal; table = table }
+
+-- a call leaves the result, with its answer given in a form of `give`
+pub record Shows {Form : Type 0} (give : Report → Form) (result : Result) (left : Left Form) : Type 0 where
+  pub answer-is : left .answer ≡ give (result .answer)
+  pub text-is : left .text ≡ result .lent .text
+  pub journal-is : left .journal ≡ result .lent .journal
+  pub table-is : left .table ≡ result .table
 
 -- 11 "a length in use exceeds its buffer"
 unfoldable pub badLength : Lent → Bool
-badLength b = ltb (length (b .text)) (b .used) || ltb (length (b .journal)) (b .kept)
+badLength b = ltb (length (b .text)) (b .used .text) || ltb (length (b .journal)) (b .used .journal)
 
 -- "11, leave every table word 0 and a node count of 0"
 unfoldable pub lengthRefused : (words : ℕ) → Lent → Result
 lengthRefused words b =
     record {
-      answer = record { number = 11; place = 0; nodes = 0; used = b .used; kept = b .kept };
+      answer = record { number = 11; place = 0; nodes = 0; used = b .used };
       lent = b;
       table = replicate words 0;
     }
@@ -93,12 +108,12 @@ unfoldable pub fromLe32 : List ℕ → ℕ
 fromLe32 s = getD s 0 0 + getD s 1 0 * 256 + getD s 2 0 * 65536 + getD s 3 0 * 16777216
 
 -- the bytes of a trailer: "three 32-bit numbers"
-abbrev pub trailerSize : ℕ
-trailerSize = 12
+abbrev pub trailerBytes : ℕ
+trailerBytes = 12
 
 -- "three 32-bit numbers, low byte first: start; replacement length; old length plus 12, which is the whole entry"
 unfoldable pub trailer : (start new old : ℕ) → List ℕ
-trailer start new old = le32 start ++ (le32 new ++ le32 (old + trailerSize))
+trailer start new old = le32 start ++ (le32 new ++ le32 (old + trailerBytes))
 
 -- "A correction's entry is the bytes it replaces, then the trailer above": the bytes from `start` to before `stop`
 unfoldable pub entry : (start stop : ℕ) (replacement text : List ℕ) → List ℕ
@@ -120,7 +135,7 @@ noRoom new room = ltb (min room maxText) (length new)
 
 -- "three 32-bit numbers", counted from 0, of the trailer at the journal's end
 unfoldable pub trailerNumber : (i : ℕ) → List ℕ → ℕ
-trailerNumber i journal = fromLe32 (drop (length journal - trailerSize + 4 * i) journal)
+trailerNumber i journal = fromLe32 (drop (length journal - trailerBytes + 4 * i) journal)
 
 -- the trailer's first number, "start"
 abbrev pub entryStart : List ℕ → ℕ
@@ -137,14 +152,14 @@ entrySize journal = trailerNumber 2 journal
 -- 18 "fewer than 12 bytes; third number under 12 or over the length in use; start plus replacement length over the text's"
 unfoldable pub badEntry : (journal text : List ℕ) → Bool
 badEntry journal text =
-    ltb (length journal) trailerSize
-    || ltb (entrySize journal) trailerSize
+    ltb (length journal) trailerBytes
+    || ltb (entrySize journal) trailerBytes
     || ltb (length journal) (entrySize journal)
     || ltb (length text) (entryStart journal + entryNew journal)
 
 -- the bytes of the entry before its trailer
 unfoldable pub oldBytes : List ℕ → List ℕ
-oldBytes journal = part (length journal - entrySize journal) (length journal - trailerSize) journal
+oldBytes journal = part (length journal - entrySize journal) (length journal - trailerBytes) journal
 
 -- "It puts the old bytes back"
 unfoldable pub undone : (journal text : List ℕ) → List ℕ
@@ -155,10 +170,9 @@ unfoldable pub withUndo : Lent → Lent
 withUndo b =
     let new : List ℕ = undone (journalOf b) (textOf b) in
     record {
-      text = withText (b .used) new (b .text);
-      used = length new;
+      text = withText (b .used .text) new (b .text);
       journal = b .journal;
-      kept = b .kept - entrySize (journalOf b);
+      used = inUse (length new) (b .used .journal - entrySize (journalOf b));
     }
 
 -- ---- the calls, in an edition and with a table of so many words
@@ -167,22 +181,22 @@ module _ (sw : Switches) (words : ℕ) where
   -- ---- answers
 
   -- "After any of these the table is the reading of the text as it then stands"; of a refused reading the node count is 0
-  unfoldable pub answered : (number place : ℕ) → Lent → Result
-  answered number place b =
+  unfoldable pub resultOf : (number place : ℕ) → Lent → Result
+  resultOf number place b =
       record {
-        answer = record { number = number; place = place; nodes = nodeCount (reading sw words (textOf b)); used = b .used; kept = b .kept };
+        answer = record { number = number; place = place; nodes = nodeCount (reading sw words (textOf b)); used = b .used };
         lent = b;
         table = tableOf words (reading sw words (textOf b));
       }
 
   -- a refusal with nothing changed, or the new buffers
   unfoldable pub decided : Lent → (refusal : ℕ) → Lent → Result
-  decided b refusal new = cond (eqb refusal 0) (answered 0 0 new) (answered refusal 0 b)
+  decided b refusal new = cond (eqb refusal 0) (resultOf 0 0 new) (resultOf refusal 0 b)
 
   -- "the present text is read (1 to 10)"; once it reads, the call has a refusal of its own, or new buffers
   unfoldable pub onceRead : Lent → Outcome → (refusal : ℕ) → Lent → Result
   onceRead b (taken tree) refusal new = decided b refusal new
-  onceRead b (refused number place) refusal new = answered number place b
+  onceRead b (refused number place) refusal new = resultOf number place b
 
   -- ---- corrections
 
@@ -208,7 +222,7 @@ module _ (sw : Switches) (words : ℕ) where
       cond (leb (nodeCount (reading sw words (textOf b))) node) 12
       (cond (not (oneValue sw (ltb 0 node) replacement)) 13
       (cond (noRoom (corrected node replacement (textOf b)) (length (b .text))) 14
-      (cond (ltb (length (b .journal)) (b .kept + length (entryOf node replacement (textOf b)))) 15
+      (cond (ltb (length (b .journal)) (b .used .journal + length (entryOf node replacement (textOf b)))) 15
       (cond (not (reads sw words (corrected node replacement (textOf b)))) 16
       0))))
 
@@ -218,10 +232,9 @@ module _ (sw : Switches) (words : ℕ) where
       let new : List ℕ = corrected node replacement (textOf b) in
       let more : List ℕ = entryOf node replacement (textOf b) in
       record {
-        text = withText (b .used) new (b .text);
-        used = length new;
-        journal = overwritten (b .kept) more (b .journal);
-        kept = b .kept + length more;
+        text = withText (b .used .text) new (b .text);
+        journal = overwritten (b .used .journal) more (b .journal);
+        used = inUse (length new) (b .used .journal + length more);
       }
 
   -- "Order: 11; the present text is read (1 to 10); 12; .."
@@ -235,7 +248,7 @@ module _ (sw : Switches) (words : ℕ) where
   -- "17 (length 0); 18 ..; 14; 16", or 0
   unfoldable pub undoRefusal : Lent → ℕ
   undoRefusal b =
-      cond (eqb (b .kept) 0) 17
+      cond (eqb (b .used .journal) 0) 17
       (cond (badEntry (journalOf b) (textOf b)) 18
       (cond (noRoom (undone (journalOf b) (textOf b)) (length (b .text))) 14
       (cond (not (reads sw words (undone (journalOf b) (textOf b)))) 16

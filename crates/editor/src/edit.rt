@@ -1,294 +1,219 @@
 // Correction of one value, and undo, on lent buffers.
 ghost use mathlib.Core.Path.{_≡_};
-ghost use lib.ListN.{length};
+ghost use lib.ListN.{length, replicate};
+ghost use Rattle.text.specs.Refusal.{refusal};
 ghost use Rattle.text.specs.Switches.{presentEdition};
-ghost use Rattle.editor.specs.Edit.{lentOf, Shows, correct, undo};
-ghost use Rattle.editor.specs.Internal.{refusedWith, Opens, ReadNow, Within, CorrectsRead, Replaces, LastIs, UndoesRead};
+ghost use Rattle.reader.specs.declared.read.Reading.the-variants as R;
+ghost use Rattle.editor.specs.Edit.{lentOf, leaving, Shows, changeOf, correct, undo};
+ghost use Rattle.editor.specs.Internal.{Opens, Knows, Within, replaced, correctedRead, TrailerIs, undoneRead};
 use crate::buffers::put_text;
+use crate::change::Change;
+use crate::change::InUse;
+use crate::change::Verdict;
 use crate::journal::Entry;
+use crate::journal::TRAILER_BYTES;
+use crate::journal::Trailer;
 use crate::journal::last_entry;
 use crate::journal::put_entry;
-use crate::trial::Tried;
-use crate::trial::try_text;
+use crate::trial::Plan;
+use crate::trial::Present;
+use crate::trial::refused;
+use crate::trial::try_change;
 use reader::read::Reading;
 use reader::read::one_value;
 use reader::read::read_edition;
 use reader::rows::clear;
 use reader::rows::word;
+use text::refusal::BAD_ENTRY;
+use text::refusal::LENGTH_IN_USE;
+use text::refusal::NO_SUCH_NODE;
+use text::refusal::NOT_ONE_VALUE;
+use text::refusal::NOTHING_TO_UNDO;
+use text::refusal::Refusal;
+use text::span::MAX_TEXT;
+use text::span::Span;
 use text::switches::Switches;
 use text::switches::present;
 
-// It was done, or refused: document 01's number, and the place.
-pub enum Verdict {
-    Done,
-    Refused(u8, usize),
-}
-
-// With it the node count of the text as it then stands, and the lengths in use of the text and of the journal.
-pub struct Change {
-    pub verdict: Verdict,
-    pub nodes: usize,
-    pub used: usize,
-    pub kept: usize,
-}
-
-// A refusal at 0, with nothing changed.
-fn refusal(number: u8, nodes: usize, used: usize, kept: usize) -> Change
-    ensures { λ r. ⌜ r ≡ refusedWith number nodes used kept ⌝ }
+// 11, and every word of the table 0.
+fn refuse_lengths(table: &mut [u32]) -> Reading
+    ensures { λ r. ⌜ (r ≡ R.Refused (refusal 11 0)) × (now (table .exit) ≡ replicate (length (now (table .entry))) 0) ⌝ }
 {
-    Change {
-        verdict: Verdict::Refused(number, 0),
-        nodes,
-        used,
-        kept,
-    }
+    clear(table);
+    Reading::Refused(Refusal {
+        number: LENGTH_IN_USE,
+        place: 0,
+    })
 }
 
 // What every call begins with: the lengths in use are within their buffers, and the text in use is read into the table.
-fn open_text(
-    sw: Switches,
-    text: &[u8],
-    used: usize,
-    journal: &[u8],
-    kept: usize,
-    table: &mut [u32],
-) -> Reading
-    ensures { λ r. ⌜ Opens sw (length (now (table .entry))) (lentOf (now (text .entry)) used (now (journal .entry)) kept) (now (table .exit)) r ⌝ }
+fn open_text(sw: Switches, text: &[u8], journal: &[u8], used: InUse, table: &mut [u32]) -> Reading
+    ensures { λ r. ⌜ Opens sw (length (now (table .entry))) (lentOf (now (text .entry)) (now (journal .entry)) used) (now (table .exit)) r ⌝ }
 {
-    if text.len() < used {
-        clear(table);
-        return Reading::Refused(11, 0);
+    if text.len() < used.text {
+        return refuse_lengths(table);
     }
-    if journal.len() < kept {
-        clear(table);
-        return Reading::Refused(11, 0);
+    if journal.len() < used.journal {
+        return refuse_lengths(table);
     }
-    read_edition(sw, &text[..used], table)
+    let text_used = used.text;
+    read_edition(sw, &text[..text_used], table)
 }
 
-// Puts the replacement in place of the bytes from `start` to before `stop`, if there is room and the new text reads.
+// Puts the replacement in place of the bytes of the span, and an entry that takes it back into the journal, if there is room and the new
+// text reads.
 fn replace(
-    sw: Switches,
+    present: Present,
     text: &mut [u8],
-    used: usize,
     journal: &mut [u8],
-    kept: usize,
     table: &mut [u32],
-    nodes: usize,
-    start: usize,
-    stop: usize,
+    span: Span,
     replacement: &[u8],
 ) -> Change
-    requires { ⌜ ReadNow sw (length (now table)) (lentOf (now text) used (now journal) kept) (now table) nodes × Within (lentOf (now text) used (now journal) kept) start stop (now replacement) ⌝ }
-    ensures { λ r. ⌜ Replaces sw (length (now (table .entry))) (lentOf (now (text .entry)) used (now (journal .entry)) kept) start stop (now (replacement .entry)) r (now (text .exit)) (now (journal .exit)) (now (table .exit)) ⌝ }
+    requires { ⌜ Knows present (now text) (now journal) (now table) ⌝ }
+    requires { ⌜ Within present span ⌝ }
+    ensures { λ r. ⌜ Shows changeOf (replaced present (now (text .entry)) (now (journal .entry)) (length (now (table .entry))) span (now (replacement .entry))) (leaving r (now (text .exit)) (now (journal .exit)) (now (table .exit))) ⌝ }
 {
-    let old = stop - start;
-    let new = start + replacement.len() + (used - stop);
-    if text.len() < new {
-        return refusal(14, nodes, used, kept);
-    }
-    if 65536 < new {
-        return refusal(14, nodes, used, kept);
-    }
-    if journal.len() - kept < old + 12 {
-        return refusal(15, nodes, used, kept);
-    }
-    let end = kept + old + 12;
-    let mut fresh = [0u8; 65536];
-    match try_text(
-        sw,
-        &text[..used],
-        start,
-        stop,
-        replacement,
-        &mut fresh,
-        table,
-    ) {
-        Tried::Not(present) => refusal(16, present, used, kept),
-        Tried::Reads(count) => {
-            put_entry(journal, kept, &text[start..stop], start, replacement.len());
-            put_text(text, used, &fresh[..new]);
-            Change {
-                verdict: Verdict::Done,
-                nodes: count,
-                used: new,
-                kept: end,
-            }
+    let text_used = present.used.text;
+    let journal_used = present.used.journal;
+    let start = span.start;
+    let stop = span.stop;
+    let end = journal_used + (stop - start) + TRAILER_BYTES;
+    let plan = Plan { span, journal: end };
+    let mut draft = [0u8; MAX_TEXT];
+    let change = try_change(present, text, journal, table, plan, replacement, &mut draft);
+    let verdict = change.verdict;
+    match verdict {
+        Verdict::Refused(_) => change,
+        Verdict::Done => {
+            let new = change.used.text;
+            put_entry(
+                journal,
+                journal_used,
+                &text[start..stop],
+                start,
+                replacement.len(),
+            );
+            put_text(text, text_used, &draft[..new]);
+            change
         }
     }
 }
 
 // A correction once the present text has been read: there is such a node, and the replacement is one value.
 fn correct_read(
-    sw: Switches,
+    present: Present,
     text: &mut [u8],
-    used: usize,
     journal: &mut [u8],
-    kept: usize,
     table: &mut [u32],
-    nodes: usize,
     node: usize,
     replacement: &[u8],
 ) -> Change
-    requires { ⌜ ReadNow sw (length (now table)) (lentOf (now text) used (now journal) kept) (now table) nodes ⌝ }
-    ensures { λ r. ⌜ CorrectsRead sw (length (now (table .entry))) (lentOf (now (text .entry)) used (now (journal .entry)) kept) node (now (replacement .entry)) r (now (text .exit)) (now (journal .exit)) (now (table .exit)) ⌝ }
+    requires { ⌜ Knows present (now text) (now journal) (now table) ⌝ }
+    ensures { λ r. ⌜ Shows changeOf (correctedRead present (now (text .entry)) (now (journal .entry)) (length (now (table .entry))) node (now (replacement .entry))) (leaving r (now (text .exit)) (now (journal .exit)) (now (table .exit))) ⌝ }
 {
-    if nodes <= node {
-        return refusal(12, nodes, used, kept);
+    if present.nodes <= node {
+        return refused(present, NO_SUCH_NODE);
     }
+    let sw = present.sw;
     if !one_value(sw, 0 < node, replacement) {
-        return refusal(13, nodes, used, kept);
+        return refused(present, NOT_ONE_VALUE);
     }
-    let start = word(table, 12 * node + 2);
-    let stop = word(table, 12 * node + 3);
-    replace(
-        sw,
-        text,
-        used,
-        journal,
-        kept,
-        table,
-        nodes,
-        start,
-        stop,
-        replacement,
-    )
+    let span = Span {
+        start: word(table, 12 * node + 2),
+        stop: word(table, 12 * node + 3),
+    };
+    replace(present, text, journal, table, span, replacement)
 }
 
 // Replaces one value of a text of the edition that `sw` says: the node's, by its number in the text's reading.
 pub fn correct_edition(
     sw: Switches,
     text: &mut [u8],
-    used: usize,
     journal: &mut [u8],
-    kept: usize,
+    used: InUse,
     table: &mut [u32],
     node: usize,
     replacement: &[u8],
 ) -> Change
-    ensures { λ r. ⌜ Shows (correct sw (length (now (table .entry))) (lentOf (now (text .entry)) used (now (journal .entry)) kept) node (now (replacement .entry))) r (now (text .exit)) (now (journal .exit)) (now (table .exit)) ⌝ }
+    ensures { λ r. ⌜ Shows changeOf (correct sw (length (now (table .entry))) (lentOf (now (text .entry)) (now (journal .entry)) used) node (now (replacement .entry))) (leaving r (now (text .exit)) (now (journal .exit)) (now (table .exit))) ⌝ }
 {
-    match open_text(sw, text, used, journal, kept, table) {
-        Reading::Refused(number, place) => Change {
-            verdict: Verdict::Refused(number, place),
+    match open_text(sw, text, journal, used, table) {
+        Reading::Refused(refusal) => Change {
+            verdict: Verdict::Refused(refusal),
             nodes: 0,
             used,
-            kept,
         },
-        Reading::Taken(nodes) => correct_read(
-            sw,
-            text,
-            used,
-            journal,
-            kept,
-            table,
-            nodes,
-            node,
-            replacement,
-        ),
+        Reading::Taken(nodes) => {
+            let present = Present { sw, used, nodes };
+            correct_read(present, text, journal, table, node, replacement)
+        }
     }
 }
 
 // The same for a text of the present edition.
 pub fn correct(
     text: &mut [u8],
-    used: usize,
     journal: &mut [u8],
-    kept: usize,
+    used: InUse,
     table: &mut [u32],
     node: usize,
     replacement: &[u8],
 ) -> Change
-    ensures { λ r. ⌜ Shows (correct presentEdition (length (now (table .entry))) (lentOf (now (text .entry)) used (now (journal .entry)) kept) node (now (replacement .entry))) r (now (text .exit)) (now (journal .exit)) (now (table .exit)) ⌝ }
+    ensures { λ r. ⌜ Shows changeOf (correct presentEdition (length (now (table .entry))) (lentOf (now (text .entry)) (now (journal .entry)) used) node (now (replacement .entry))) (leaving r (now (text .exit)) (now (journal .exit)) (now (table .exit))) ⌝ }
 {
-    correct_edition(
-        present(),
-        text,
-        used,
-        journal,
-        kept,
-        table,
-        node,
-        replacement,
-    )
+    correct_edition(present(), text, journal, used, table, node, replacement)
 }
 
-// Puts the last entry's old bytes back in place of those from `start` to before `stop`, if there is room and the new text reads.
+// Puts the last entry's old bytes back in place of those that replaced them, if there is room and the new text reads.
 fn undo_entry(
-    sw: Switches,
+    present: Present,
     text: &mut [u8],
-    used: usize,
     journal: &[u8],
-    kept: usize,
     table: &mut [u32],
-    nodes: usize,
-    start: usize,
-    stop: usize,
-    size: usize,
+    trailer: Trailer,
 ) -> Change
-    requires { ⌜ ReadNow sw (length (now table)) (lentOf (now text) used (now journal) kept) (now table) nodes × LastIs (lentOf (now text) used (now journal) kept) start stop size ⌝ }
-    ensures { λ r. ⌜ UndoesRead sw (length (now (table .entry))) (lentOf (now (text .entry)) used (now (journal .entry)) kept) r (now (text .exit)) (now (journal .entry)) (now (table .exit)) ⌝ }
+    requires { ⌜ Knows present (now text) (now journal) (now table) ⌝ }
+    requires { ⌜ TrailerIs present (now text) (now journal) trailer ⌝ }
+    ensures { λ r. ⌜ Shows changeOf (undoneRead present (now (text .entry)) (now (journal .entry)) (length (now (table .entry)))) (leaving r (now (text .exit)) (now (journal .entry)) (now (table .exit))) ⌝ }
 {
-    let old = size - 12;
-    let new = start + old + (used - stop);
-    if text.len() < new {
-        return refusal(14, nodes, used, kept);
-    }
-    if 65536 < new {
-        return refusal(14, nodes, used, kept);
-    }
-    let end = kept - size;
-    let mut fresh = [0u8; 65536];
-    match try_text(
-        sw,
-        &text[..used],
-        start,
-        stop,
-        &journal[end..kept - 12],
-        &mut fresh,
+    let text_used = present.used.text;
+    let journal_used = present.used.journal;
+    let span = trailer.span;
+    let end = journal_used - trailer.size;
+    let plan = Plan { span, journal: end };
+    let mut draft = [0u8; MAX_TEXT];
+    let change = try_change(
+        present,
+        text,
+        journal,
         table,
-    ) {
-        Tried::Not(present) => refusal(16, present, used, kept),
-        Tried::Reads(count) => {
-            put_text(text, used, &fresh[..new]);
-            Change {
-                verdict: Verdict::Done,
-                nodes: count,
-                used: new,
-                kept: end,
-            }
+        plan,
+        &journal[end..journal_used - TRAILER_BYTES],
+        &mut draft,
+    );
+    let verdict = change.verdict;
+    match verdict {
+        Verdict::Refused(_) => change,
+        Verdict::Done => {
+            let new = change.used.text;
+            put_text(text, text_used, &draft[..new]);
+            change
         }
     }
 }
 
 // An undo once the present text has been read: there is an entry, and it is good.
-fn undo_read(
-    sw: Switches,
-    text: &mut [u8],
-    used: usize,
-    journal: &[u8],
-    kept: usize,
-    table: &mut [u32],
-    nodes: usize,
-) -> Change
-    requires { ⌜ ReadNow sw (length (now table)) (lentOf (now text) used (now journal) kept) (now table) nodes ⌝ }
-    ensures { λ r. ⌜ UndoesRead sw (length (now (table .entry))) (lentOf (now (text .entry)) used (now (journal .entry)) kept) r (now (text .exit)) (now (journal .entry)) (now (table .exit)) ⌝ }
+fn undo_read(present: Present, text: &mut [u8], journal: &[u8], table: &mut [u32]) -> Change
+    requires { ⌜ Knows present (now text) (now journal) (now table) ⌝ }
+    ensures { λ r. ⌜ Shows changeOf (undoneRead present (now (text .entry)) (now (journal .entry)) (length (now (table .entry)))) (leaving r (now (text .exit)) (now (journal .entry)) (now (table .exit))) ⌝ }
 {
-    match last_entry(&journal[..kept], &text[..used]) {
-        Entry::Nothing => refusal(17, nodes, used, kept),
-        Entry::Bad => refusal(18, nodes, used, kept),
-        Entry::Last { start, stop, size } => undo_entry(
-            sw,
-            text,
-            used,
-            journal,
-            kept,
-            table,
-            nodes,
-            start,
-            stop,
-            size,
-        ),
+    let text_used = present.used.text;
+    let journal_used = present.used.journal;
+    match last_entry(&journal[..journal_used], &text[..text_used]) {
+        Entry::Nothing => refused(present, NOTHING_TO_UNDO),
+        Entry::Bad => refused(present, BAD_ENTRY),
+        Entry::Good(trailer) => undo_entry(present, text, journal, table, trailer),
     }
 }
 
@@ -297,27 +222,28 @@ fn undo_read(
 pub fn undo_edition(
     sw: Switches,
     text: &mut [u8],
-    used: usize,
     journal: &[u8],
-    kept: usize,
+    used: InUse,
     table: &mut [u32],
 ) -> Change
-    ensures { λ r. ⌜ Shows (undo sw (length (now (table .entry))) (lentOf (now (text .entry)) used (now (journal .entry)) kept)) r (now (text .exit)) (now (journal .entry)) (now (table .exit)) ⌝ }
+    ensures { λ r. ⌜ Shows changeOf (undo sw (length (now (table .entry))) (lentOf (now (text .entry)) (now (journal .entry)) used)) (leaving r (now (text .exit)) (now (journal .entry)) (now (table .exit))) ⌝ }
 {
-    match open_text(sw, text, used, journal, kept, table) {
-        Reading::Refused(number, place) => Change {
-            verdict: Verdict::Refused(number, place),
+    match open_text(sw, text, journal, used, table) {
+        Reading::Refused(refusal) => Change {
+            verdict: Verdict::Refused(refusal),
             nodes: 0,
             used,
-            kept,
         },
-        Reading::Taken(nodes) => undo_read(sw, text, used, journal, kept, table, nodes),
+        Reading::Taken(nodes) => {
+            let present = Present { sw, used, nodes };
+            undo_read(present, text, journal, table)
+        }
     }
 }
 
 // The same for a text of the present edition.
-pub fn undo(text: &mut [u8], used: usize, journal: &[u8], kept: usize, table: &mut [u32]) -> Change
-    ensures { λ r. ⌜ Shows (undo presentEdition (length (now (table .entry))) (lentOf (now (text .entry)) used (now (journal .entry)) kept)) r (now (text .exit)) (now (journal .entry)) (now (table .exit)) ⌝ }
+pub fn undo(text: &mut [u8], journal: &[u8], used: InUse, table: &mut [u32]) -> Change
+    ensures { λ r. ⌜ Shows changeOf (undo presentEdition (length (now (table .entry))) (lentOf (now (text .entry)) (now (journal .entry)) used)) (leaving r (now (text .exit)) (now (journal .entry)) (now (table .exit))) ⌝ }
 {
-    undo_edition(present(), text, used, journal, kept, table)
+    undo_edition(present(), text, journal, used, table)
 }

@@ -3,9 +3,13 @@ ghost use mathlib.Core.Path.{_≡_};
 ghost use Prim.Native.Nat.{_≤_, _<_, _+_};
 ghost use mathlib.Core.List.{_++_};
 ghost use lib.ListN.{length, drop};
-ghost use Rattle.editor.specs.Edit.{le32, fromLe32, trailer, overwritten};
+ghost use Rattle.editor.specs.Edit.{le32, fromLe32, trailer, trailerBytes, overwritten};
 ghost use Rattle.editor.specs.Internal.{lastEntry};
 use crate::buffers::put_at;
+use text::span::Span;
+
+// The bytes of a trailer: three numbers of four bytes each.
+pub(crate) const TRAILER_BYTES: usize = 12;
 
 fn wide(b: u8) -> usize
     ensures { λ r. ⌜ (r ≡ b) × (r < 256) ⌝ }
@@ -32,52 +36,55 @@ fn number_at(s: &[u8], at: usize) -> usize
     wide(s[at]) + wide(s[at + 1]) * 256 + wide(s[at + 2]) * 65536 + wide(s[at + 3]) * 16777216
 }
 
-// Writes an entry from `kept` on: the old bytes, then the trailer with `start`, the replacement's length `new`, and the entry's own length.
-pub fn put_entry(journal: &mut [u8], kept: usize, old: &[u8], start: usize, new: usize)
-    requires { ⌜ kept + length (now old) + 12 ≤ length (now journal) ⌝ }
-    ensures { λ _. ⌜ now (journal .exit) ≡ overwritten kept (now (old .entry) ++ trailer start new (length (now (old .entry)))) (now (journal .entry)) ⌝ }
+// Writes an entry from `at` on: the old bytes, then the trailer with `start`, the replacement's length `new`, and the entry's own length.
+pub(crate) fn put_entry(journal: &mut [u8], at: usize, old: &[u8], start: usize, new: usize)
+    requires { ⌜ at + length (now old) + trailerBytes ≤ length (now journal) ⌝ }
+    ensures { λ _. ⌜ now (journal .exit) ≡ overwritten at (now (old .entry) ++ trailer start new (length (now (old .entry)))) (now (journal .entry)) ⌝ }
 {
-    put_at(old, journal, kept);
-    let at = kept + old.len();
-    put_number(journal, at, start);
-    put_number(journal, at + 4, new);
-    put_number(journal, at + 8, old.len() + 12);
+    put_at(old, journal, at);
+    let end = at + old.len();
+    put_number(journal, end, start);
+    put_number(journal, end + 4, new);
+    put_number(journal, end + 8, old.len() + TRAILER_BYTES);
 }
 
-// The last entry of a journal in use, against the text in use: there is none, or it is bad, or it is `size` bytes long and its
-// replacement stands in the text from `start` to before `stop`.
-pub enum Entry {
+// What the trailer of a good entry says: its replacement stands in the text in the span, and the entry is `size` bytes long.
+pub(crate) struct Trailer {
+    pub span: Span,
+    pub size: usize,
+}
+
+// The last entry of a journal in use, against the text in use: there is none, or it is bad, or it is good.
+pub(crate) enum Entry {
     Nothing,
     Bad,
-    Last {
-        start: usize,
-        stop: usize,
-        size: usize,
-    },
+    Good(Trailer),
 }
 
 // Reads the trailer at the end of a journal in use, and judges it.
-pub fn last_entry(journal: &[u8], text: &[u8]) -> Entry
+pub(crate) fn last_entry(journal: &[u8], text: &[u8]) -> Entry
     ensures { λ r. ⌜ r ≡ lastEntry (now (journal .entry)) (now (text .entry)) ⌝ }
 {
-    let n = journal.len();
-    if n == 0 {
+    let length = journal.len();
+    if length == 0 {
         return Entry::Nothing;
     }
-    if n < 12 {
+    if length < TRAILER_BYTES {
         return Entry::Bad;
     }
-    let size = number_at(journal, n - 12 + 8);
-    if size < 12 {
+    let at = length - TRAILER_BYTES;
+    let size = number_at(journal, at + 8);
+    if size < TRAILER_BYTES {
         return Entry::Bad;
     }
-    if n < size {
+    if length < size {
         return Entry::Bad;
     }
-    let start = number_at(journal, n - 12);
-    let stop = start + number_at(journal, n - 12 + 4);
+    let start = number_at(journal, at);
+    let stop = start + number_at(journal, at + 4);
     if text.len() < stop {
         return Entry::Bad;
     }
-    Entry::Last { start, stop, size }
+    let span = Span { start, stop };
+    Entry::Good(Trailer { span, size })
 }

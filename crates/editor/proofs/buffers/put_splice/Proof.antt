@@ -16,7 +16,7 @@ slice-aggregate-put-at : tie.Need-slice-aggregate-put-at
 slice-aggregate-put-at c = sym (length-take-le _ _ (omega arith))
 
 put-at-requires : tie.Need-put-at-requires
-put-at-requires c κs = let l = length-take-le (c .before .before .before .before .before .args .start) (c .before .before .before .before .before .args .text .now) (omega arith) in omega arith
+put-at-requires c κs = let l = length-take-le (c .before .before .before .before .before .args .span .start) (c .before .before .before .before .before .args .text .now) (omega arith) in omega arith
 
 put-at-requires-2 : tie.Need-put-at-requires-2
 put-at-requires-2 c κs = search needs
@@ -41,9 +41,9 @@ same-length c = omega arith
 
 returns : tie.Need-returns
 returns c = c .before .before .put-at3 .ensures
-    ∙ ap (overwritten (c .before .before .before .before .before .before .before .before .before .before .before .before .before .before .before .before .before .args .start + length (c .before .before .before .before .before .before .before .before .before .before .before .before .before .before .before .before .before .args .replacement .now)) (take (length (c .before .before .before .before .before .before .before .before .before .before .before .before .before .before .before .before .before .args .text .now) - c .before .before .before .before .before .before .before .before .before .before .before .before .before .before .before .before .before .args .stop) (drop (c .before .before .before .before .before .before .before .before .before .before .before .before .before .before .before .before .before .args .stop) (c .before .before .before .before .before .before .before .before .before .before .before .before .before .before .before .before .before .args .text .now))))
-    (c .before .before .before .before .before .before .before .put-at2 .ensures ∙ ap (overwritten (c .before .before .before .before .before .before .before .before .before .before .before .before .before .before .before .before .before .args .start) (c .before .before .before .before .before .before .before .before .before .before .before .before .before .before .before .before .before .args .replacement .now)) (c .before .before .before .before .before .before .before .before .before .before .before .put-at .ensures))
-    ∙ over-splice (c .before .before .before .before .before .before .before .before .before .before .before .before .before .before .before .before .before .args .start) (c .before .before .before .before .before .before .before .before .before .before .before .before .before .before .before .before .before .args .stop) (c .before .before .before .before .before .before .before .before .before .before .before .before .before .before .before .before .before .args .replacement .now) (c .before .before .before .before .before .before .before .before .before .before .before .before .before .before .before .before .before .args .text .now) (c .before .before .before .before .before .before .before .before .before .before .before .before .before .before .before .before .before .args .dst .now) (omega arith) (omega arith)
+    ∙ ap (overwritten (c .before .before .before .before .before .before .before .before .before .before .before .before .before .before .before .before .before .args .span .start + length (c .before .before .before .before .before .before .before .before .before .before .before .before .before .before .before .before .before .args .replacement .now)) (take (length (c .before .before .before .before .before .before .before .before .before .before .before .before .before .before .before .before .before .args .text .now) - c .before .before .before .before .before .before .before .before .before .before .before .before .before .before .before .before .before .args .span .stop) (drop (c .before .before .before .before .before .before .before .before .before .before .before .before .before .before .before .before .before .args .span .stop) (c .before .before .before .before .before .before .before .before .before .before .before .before .before .before .before .before .before .args .text .now))))
+    (c .before .before .before .before .before .before .before .put-at2 .ensures ∙ ap (overwritten (c .before .before .before .before .before .before .before .before .before .before .before .before .before .before .before .before .before .args .span .start) (c .before .before .before .before .before .before .before .before .before .before .before .before .before .before .before .before .before .args .replacement .now)) (c .before .before .before .before .before .before .before .before .before .before .before .put-at .ensures))
+    ∙ over-splice (c .before .before .before .before .before .before .before .before .before .before .before .before .before .before .before .before .before .args .span .start) (c .before .before .before .before .before .before .before .before .before .before .before .before .before .before .before .before .before .args .span .stop) (c .before .before .before .before .before .before .before .before .before .before .before .before .before .before .before .before .before .args .replacement .now) (c .before .before .before .before .before .before .before .before .before .before .before .before .before .before .before .before .before .args .text .now) (c .before .before .before .before .before .before .before .before .before .before .before .before .before .before .before .before .before .args .dst .now) (omega arith) (omega arith)
 
 pub put-splice-spec : {M : Type 1} → statement M
 put-splice-spec =

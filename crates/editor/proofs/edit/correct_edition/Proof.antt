@@ -15,14 +15,14 @@ use Rattle.editor.proofs.edit.open_text.Reads as open-text-reads
 open-text-requires : tie.Need-open-text-requires
 open-text-requires c κs = search needs
 
-enum-known-number : tie.Need-enum-known-number
-enum-known-number c = search needs
+enum-known-refusal : tie.Need-enum-known-refusal
+enum-known-refusal c = search needs
 
 enum-known-nodes : tie.Need-enum-known-nodes
 enum-known-nodes c = search needs
 
 correct-read-requires : tie.Need-correct-read-requires
-correct-read-requires c κs = read-at (c .before .before .before .before .before .before .before .before .before .before .before .before .before .before .before .before .args .sw) (length (c .before .before .before .before .before .before .before .before .before .before .before .before .before .before .before .before .args .table .now)) _ _ _ _ (c .before .before .before .before .before .before .before .before .open-text .kept .1 .1 .1 .1 .1 .0) (opens-taken (c .before .before .before .before .before .before .before .before .before .before .before .before .before .before .before .before .args .sw) _ (c .before .before .before .before .nodes .given .1) (c .before .before .before .before .before .before .before .before .open-text .ensures))
+correct-read-requires c κs = read-at (c .before .before .before .before .before .before .before .before .before .before .before .before .before .before .before .before .args .sw) (length (c .before .before .before .before .before .before .before .before .before .before .before .before .before .before .before .before .args .table .now)) _ _ _ _ (c .before .before .before .before .before .before .before .before .open-text .kept .1 .1 .1 .1 .0) (opens-taken (c .before .before .before .before .before .before .before .before .before .before .before .before .before .before .before .before .args .sw) _ (c .before .before .before .before .nodes .given .1) (c .before .before .before .before .before .before .before .before .open-text .ensures))
 
 same-length : tie.Need-same-length
 same-length c = omega arith
@@ -34,8 +34,8 @@ same-length-3 : tie.Need-same-length-3
 same-length-3 c = omega arith
 
 returns : tie.Need-returns
-returns c = correct-stops (c .before .before .before .before .before .before .before .before .before .before .before .before .before .args .sw) (length (c .before .before .before .before .before .before .before .before .before .before .before .before .before .args .table .now)) (lentOf (c .before .before .before .before .before .before .before .before .before .before .before .before .before .args .text .now) (c .before .before .before .before .before .before .before .before .before .before .before .before .before .args .used) (c .before .before .before .before .before .before .before .before .before .before .before .before .before .args .journal .now) (c .before .before .before .before .before .before .before .before .before .before .before .before .before .args .kept)) (c .before .before .before .before .before .before .before .before .before .before .before .before .before .args .node) (c .before .before .before .before .before .before .before .before .before .before .before .before .before .args .replacement .now) _ _ _
-    (opens-stopped (c .before .before .before .before .before .before .before .before .before .before .before .before .before .args .sw) _ (c .before .number .given .1) (c .before .before .before .before .before .open-text .ensures))
+returns c = correct-stops (c .before .before .before .before .before .before .before .before .before .before .before .before .before .args .sw) (length (c .before .before .before .before .before .before .before .before .before .before .before .before .before .args .table .now)) (lentOf (c .before .before .before .before .before .before .before .before .before .before .before .before .before .args .text .now) (c .before .before .before .before .before .before .before .before .before .before .before .before .before .args .journal .now) (c .before .before .before .before .before .before .before .before .before .before .before .before .before .args .used)) (c .before .before .before .before .before .before .before .before .before .before .before .before .before .args .node) (c .before .before .before .before .before .before .before .before .before .before .before .before .before .args .replacement .now) _ _
+    (opens-stopped (c .before .before .before .before .before .before .before .before .before .before .before .before .before .args .sw) _ (c .before .refusal .given .1) (c .before .before .before .before .before .open-text .ensures))
 
 same-length-4 : tie.Need-same-length-4
 same-length-4 c = omega arith
@@ -48,16 +48,16 @@ same-length-6 c = omega arith
 
 returns-2 : tie.Need-returns-2
 unfolding correct
-returns-2 c = let b = lentOf (c .before .before .before .before .before .before .before .before .before .before .before .before .before .before .before .before .before .before .before .before .before .before .before .args .text .now) (c .before .before .before .before .before .before .before .before .before .before .before .before .before .before .before .before .before .before .before .before .before .before .before .args .used) (c .before .before .before .before .before .before .before .before .before .before .before .before .before .before .before .before .before .before .before .before .before .before .before .args .journal .now) (c .before .before .before .before .before .before .before .before .before .before .before .before .before .before .before .before .before .before .before .before .before .before .before .args .kept) in
+returns-2 c = let b = (lentOf (c .before .before .before .before .before .before .before .before .before .before .before .before .before .before .before .before .before .before .before .before .before .before .before .args .text .now) (c .before .before .before .before .before .before .before .before .before .before .before .before .before .before .before .before .before .before .before .before .before .before .before .args .journal .now) (c .before .before .before .before .before .before .before .before .before .before .before .before .before .before .before .before .before .before .before .before .before .before .before .args .used)) in
     opened-shows (c .before .before .before .before .before .before .before .before .before .before .before .before .before .before .before .before .before .before .before .before .before .before .before .args .sw) (length (c .before .before .before .before .before .before .before .before .before .before .before .before .before .before .before .before .before .before .before .before .before .before .before .args .table .now)) b (λ w. correctionRefusal (c .before .before .before .before .before .before .before .before .before .before .before .before .before .before .before .before .before .before .before .before .before .before .before .args .sw) w b (c .before .before .before .before .before .before .before .before .before .before .before .before .before .before .before .before .before .before .before .before .before .before .before .args .node) (c .before .before .before .before .before .before .before .before .before .before .before .before .before .before .before .before .before .before .before .before .before .before .before .args .replacement .now)) (λ w. withCorrection (c .before .before .before .before .before .before .before .before .before .before .before .before .before .before .before .before .before .before .before .before .before .before .before .args .sw) w b (c .before .before .before .before .before .before .before .before .before .before .before .before .before .before .before .before .before .before .before .before .before .before .before .args .node) (c .before .before .before .before .before .before .before .before .before .before .before .before .before .before .before .before .before .before .before .before .before .before .before .args .replacement .now)) _ _ _ _ _ _ _
-    (opens-taken (c .before .before .before .before .before .before .before .before .before .before .before .before .before .before .before .before .before .before .before .before .before .before .before .args .sw) _ (c .before .before .before .before .before .before .before .before .before .before .before .nodes .given .1) (c .before .before .before .before .before .before .before .before .before .before .before .before .before .before .before .open-text .ensures)) (c .before .before .before .before .before .before .before .before .before .before .before .before .before .before .before .open-text .kept .1 .1 .1 .1 .1 .0) (c .before .before .before .before .before .before .correct-read .ensures)
+    (opens-taken (c .before .before .before .before .before .before .before .before .before .before .before .before .before .before .before .before .before .before .before .before .before .before .before .args .sw) _ (c .before .before .before .before .before .before .before .before .before .before .before .nodes .given .1) (c .before .before .before .before .before .before .before .before .before .before .before .before .before .before .before .open-text .ensures)) (c .before .before .before .before .before .before .before .before .before .before .before .before .before .before .before .open-text .kept .1 .1 .1 .1 .0) (c .before .before .before .before .before .before .correct-read .ensures)
 
 pub correct-edition-spec : {M : Type 1} → statement M
 correct-edition-spec =
     tie.close
     (tie.spec
     open-text-requires
-    enum-known-number
+    enum-known-refusal
     enum-known-nodes
     correct-read-requires
     same-length

@@ -16,14 +16,14 @@ use Rattle.editor.proofs.edit.undo_read.Reads as undo-read-reads
 open-text-requires : tie.Need-open-text-requires
 open-text-requires c κs = search needs
 
-enum-known-number : tie.Need-enum-known-number
-enum-known-number c = search needs
+enum-known-refusal : tie.Need-enum-known-refusal
+enum-known-refusal c = search needs
 
 enum-known-nodes : tie.Need-enum-known-nodes
 enum-known-nodes c = search needs
 
 undo-read-requires : tie.Need-undo-read-requires
-undo-read-requires c κs = read-at (c .before .before .before .before .before .before .before .before .before .before .before .before .before .args .sw) (length (c .before .before .before .before .before .before .before .before .before .before .before .before .before .args .table .now)) _ _ _ _ (c .before .before .before .before .before .before .before .open-text .kept .1 .1 .1 .1 .1 .0) (opens-taken (c .before .before .before .before .before .before .before .before .before .before .before .before .before .args .sw) _ (c .before .before .before .nodes .given .1) (c .before .before .before .before .before .before .before .open-text .ensures))
+undo-read-requires c κs = read-at (c .before .before .before .before .before .before .before .before .before .before .before .before .before .args .sw) (length (c .before .before .before .before .before .before .before .before .before .before .before .before .before .args .table .now)) _ _ _ _ (c .before .before .before .before .before .before .before .open-text .kept .1 .1 .1 .1 .0) (opens-taken (c .before .before .before .before .before .before .before .before .before .before .before .before .before .args .sw) _ (c .before .before .before .nodes .given .1) (c .before .before .before .before .before .before .before .open-text .ensures))
 
 same-length : tie.Need-same-length
 same-length c = omega arith
@@ -32,8 +32,8 @@ same-length-2 : tie.Need-same-length-2
 same-length-2 c = omega arith
 
 returns : tie.Need-returns
-returns c = undo-stops (c .before .before .before .before .before .before .before .before .before .before .before .args .sw) (length (c .before .before .before .before .before .before .before .before .before .before .before .args .table .now)) (lentOf (c .before .before .before .before .before .before .before .before .before .before .before .args .text .now) (c .before .before .before .before .before .before .before .before .before .before .before .args .used) (c .before .before .before .before .before .before .before .before .before .before .before .args .journal .now) (c .before .before .before .before .before .before .before .before .before .before .before .args .kept)) _ _ _
-    (opens-stopped (c .before .before .before .before .before .before .before .before .before .before .before .args .sw) _ (c .before .number .given .1) (c .before .before .before .before .before .open-text .ensures))
+returns c = undo-stops (c .before .before .before .before .before .before .before .before .before .before .before .args .sw) (length (c .before .before .before .before .before .before .before .before .before .before .before .args .table .now)) (lentOf (c .before .before .before .before .before .before .before .before .before .before .before .args .text .now) (c .before .before .before .before .before .before .before .before .before .before .before .args .journal .now) (c .before .before .before .before .before .before .before .before .before .before .before .args .used)) _ _
+    (opens-stopped (c .before .before .before .before .before .before .before .before .before .before .before .args .sw) _ (c .before .refusal .given .1) (c .before .before .before .before .before .open-text .ensures))
 
 same-length-3 : tie.Need-same-length-3
 same-length-3 c = omega arith
@@ -43,16 +43,16 @@ same-length-4 c = omega arith
 
 returns-2 : tie.Need-returns-2
 unfolding undo
-returns-2 c = let b = lentOf (c .before .before .before .before .before .before .before .before .before .before .before .before .before .before .before .before .before .before .args .text .now) (c .before .before .before .before .before .before .before .before .before .before .before .before .before .before .before .before .before .before .args .used) (c .before .before .before .before .before .before .before .before .before .before .before .before .before .before .before .before .before .before .args .journal .now) (c .before .before .before .before .before .before .before .before .before .before .before .before .before .before .before .before .before .before .args .kept) in
+returns-2 c = let b = (lentOf (c .before .before .before .before .before .before .before .before .before .before .before .before .before .before .before .before .before .before .args .text .now) (c .before .before .before .before .before .before .before .before .before .before .before .before .before .before .before .before .before .before .args .journal .now) (c .before .before .before .before .before .before .before .before .before .before .before .before .before .before .before .before .before .before .args .used)) in
     opened-shows (c .before .before .before .before .before .before .before .before .before .before .before .before .before .before .before .before .before .before .args .sw) (length (c .before .before .before .before .before .before .before .before .before .before .before .before .before .before .before .before .before .before .args .table .now)) b (λ w. undoRefusal (c .before .before .before .before .before .before .before .before .before .before .before .before .before .before .before .before .before .before .args .sw) w b) (λ _. withUndo b) _ _ _ _ _ _ _
-    (opens-taken (c .before .before .before .before .before .before .before .before .before .before .before .before .before .before .before .before .before .before .args .sw) _ (c .before .before .before .before .before .before .before .before .nodes .given .1) (c .before .before .before .before .before .before .before .before .before .before .before .before .open-text .ensures)) (c .before .before .before .before .before .before .before .before .before .before .before .before .open-text .kept .1 .1 .1 .1 .1 .0) (c .before .before .before .before .undo-read .ensures)
+    (opens-taken (c .before .before .before .before .before .before .before .before .before .before .before .before .before .before .before .before .before .before .args .sw) _ (c .before .before .before .before .before .before .before .before .nodes .given .1) (c .before .before .before .before .before .before .before .before .before .before .before .before .open-text .ensures)) (c .before .before .before .before .before .before .before .before .before .before .before .before .open-text .kept .1 .1 .1 .1 .0) (c .before .before .before .before .undo-read .ensures)
 
 pub undo-edition-spec : {M : Type 1} → statement M
 undo-edition-spec =
     tie.close
     (tie.spec
     open-text-requires
-    enum-known-number
+    enum-known-refusal
     enum-known-nodes
     undo-read-requires
     same-length

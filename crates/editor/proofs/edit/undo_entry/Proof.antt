@@ -1,96 +1,54 @@
 use native.Mathlib.Omega.{arith}
 use mathlib.Core.Path.{_≡_, refl, sym, ap, _∙_}
-use Prim.Native.Nat.{ℕ, _+_, _-_, _≤_, _<_, min}
-use lib.ListN.{length, replicate, length-replicate}
+use Prim.Native.Nat.{ℕ, _+_, _-_, _≤_, min}
+use lib.ListN.{length, length-replicate}
 use lib.Seq.{length-take-le}
-use Rattle.editor.specs.Edit.{Lent, lentOf, textOf}
-use Rattle.editor.proofs.SpliceLaws.{length-part}
-use Rattle.editor.proofs.CallLaws.{front-is, does-read, does-not, shows-refused}
-use Rattle.editor.proofs.UndoCallLaws.{new, new-length, refused-14, refused-16, put-back}
+use Rattle.editor.proofs.TrialLaws.{judged-room}
+use Rattle.editor.proofs.UndoCallLaws.{undo-within, undo-refused, undo-done}
 use borrow.Author.Needs.{needs}
 use Rattle.editor.proofs.edit.undo_entry.Statement.{statement}
 use Rattle.editor.proofs.edit.undo_entry.Tie as tie
 use Rattle.editor.proofs.edit.undo_entry.Reads as reads
 use Rattle.editor.proofs.edit.undo_entry.Lts as lts
 use Rattle.editor.proofs.buffers.put_text.Reads as put-text-reads
-use Rattle.editor.proofs.edit.refusal.Reads as refusal-reads
-use Rattle.editor.proofs.trial.try_text.Reads as try-text-reads
-
-sub-old : tie.Need-sub-old
-sub-old c = omega arith
-
-add-new : tie.Need-add-new
-add-new c = omega arith
-
-sub-new : tie.Need-sub-new
-sub-new c = omega arith
-
-add-new-2 : tie.Need-add-new-2
-add-new-2 c = omega arith
-
-refusal-requires : tie.Need-refusal-requires
-refusal-requires c κs = search needs
-
-returns : tie.Need-returns
-returns c = let b : Lent = lentOf (c .before .before .before .before .before .args .text .now) (c .before .before .before .before .before .args .used) (c .before .before .before .before .before .args .journal .now) (c .before .before .before .before .before .args .kept) in
-    shows-refused (c .before .before .before .before .before .args .sw) _ b _ _ _ _ _ 14
-    (refused-14 (c .before .before .before .before .before .args .sw) _ b (c .before .before .before .before .before .pre .0 .used-fits) (c .before .before .before .before .before .pre .0 .kept-fits) (c .before .before .before .before .before .args .start) (c .before .before .before .before .before .args .stop) (c .before .before .before .before .before .args .size) (c .before .before .before .before .before .pre .1) (omega arith))
-    (omega arith) (c .refusal .ensures) (c .before .before .before .before .before .pre .0 .table-now)
-
-refusal-requires-2 : tie.Need-refusal-requires-2
-refusal-requires-2 c κs = search needs
-
-returns-2 : tie.Need-returns-2
-returns-2 c = let b : Lent = lentOf (c .before .before .before .before .before .before .args .text .now) (c .before .before .before .before .before .before .args .used) (c .before .before .before .before .before .before .args .journal .now) (c .before .before .before .before .before .before .args .kept) in
-    shows-refused (c .before .before .before .before .before .before .args .sw) _ b _ _ _ _ _ 14
-    (refused-14 (c .before .before .before .before .before .before .args .sw) _ b (c .before .before .before .before .before .before .pre .0 .used-fits) (c .before .before .before .before .before .before .pre .0 .kept-fits) (c .before .before .before .before .before .before .args .start) (c .before .before .before .before .before .before .args .stop) (c .before .before .before .before .before .before .args .size) (c .before .before .before .before .before .before .pre .1) (omega arith))
-    (omega arith) (c .refusal2 .ensures) (c .before .before .before .before .before .before .pre .0 .table-now)
+use Rattle.editor.proofs.trial.try_change.Reads as try-change-reads
 
 sub-end : tie.Need-sub-end
 sub-end c = omega arith
 
-slice-reshare-prefix-try-text : tie.Need-slice-reshare-prefix-try-text
-slice-reshare-prefix-try-text c = omega arith
+sub-try-change : tie.Need-sub-try-change
+sub-try-change c = omega arith
 
-slice-aggregate-try-text : tie.Need-slice-aggregate-try-text
-slice-aggregate-try-text c = sym (length-take-le _ _ (omega arith))
+sub-try-change-2 : tie.Need-sub-try-change-2
+sub-try-change-2 c = omega arith
 
-sub-try-text : tie.Need-sub-try-text
-sub-try-text c = omega arith
+part-try-change-start : tie.Need-part-try-change-start
+part-try-change-start c = omega arith
 
-sub-try-text-2 : tie.Need-sub-try-text-2
-sub-try-text-2 c = omega arith
+part-try-change-end : tie.Need-part-try-change-end
+part-try-change-end c = omega arith
 
-part-try-text-start : tie.Need-part-try-text-start
-part-try-text-start c = omega arith
+slice-aggregate-try-change : tie.Need-slice-aggregate-try-change
+slice-aggregate-try-change c = omega arith
 
-part-try-text-end : tie.Need-part-try-text-end
-part-try-text-end c = omega arith
+try-change-requires : tie.Need-try-change-requires
+try-change-requires c κs = (c .before .before .before .before .before .before .before .before .before .pre .0, (undo-within (c .before .before .before .before .before .before .before .before .before .args .present) (c .before .before .before .before .before .before .before .before .before .args .text .now) (c .before .before .before .before .before .before .before .before .before .args .journal .now) 0 (c .before .before .before .before .before .before .before .before .before .pre .0 .text-fits) (c .before .before .before .before .before .before .before .before .before .pre .0 .journal-fits) _ (c .before .before .before .before .before .before .before .before .before .pre .1), let z = length-replicate {A = ℕ} 65536 0 in omega arith))
 
-slice-aggregate-try-text-2 : tie.Need-slice-aggregate-try-text-2
-slice-aggregate-try-text-2 c = omega arith
+enum-told : tie.Need-enum-told
+enum-told c = search needs
 
-try-text-requires : tie.Need-try-text-requires
-try-text-requires c κs = let l = length-take-le (c .before .before .before .before .before .before .before .before .before .args .used) (c .before .before .before .before .before .before .before .before .before .args .text .now) (c .before .before .before .before .before .before .before .before .before .pre .0 .used-fits) in let z = length-replicate {A = ℕ} 65536 0 in
-    let o = length-part (c .before .before .before .before .before .before .before .before .before .args .kept - c .before .before .before .before .before .before .before .before .before .args .size) (c .before .before .before .before .before .before .before .before .before .args .kept - 12) (c .before .before .before .before .before .before .before .before .before .args .journal .now) (omega arith) (omega arith) in (omega arith, omega arith, omega arith)
+enum-told-2 : tie.Need-enum-told-2
+enum-told-2 c = search needs
 
-enum-known-present : tie.Need-enum-known-present
-enum-known-present c = search needs
-
-refusal-requires-3 : tie.Need-refusal-requires-3
-refusal-requires-3 c κs = search needs
-
-enum-known-count : tie.Need-enum-known-count
-enum-known-count c = search needs
-
-array-share-prefix-fresh : tie.Need-array-share-prefix-fresh
-array-share-prefix-fresh c = omega arith
+array-share-prefix-draft : tie.Need-array-share-prefix-draft
+array-share-prefix-draft c = let m = judged-room _ _ _ _ _ _ _ _ (c .before .before .before .before .before .before .try-change .ensures) (c .before .enum-told2 .given .1) in omega arith
 
 slice-aggregate-put-text : tie.Need-slice-aggregate-put-text
-slice-aggregate-put-text c = sym (length-take-le _ _ (omega arith))
+slice-aggregate-put-text c = let m = judged-room _ _ _ _ _ _ _ _ (c .before .before .before .before .before .before .before .try-change .ensures) (c .before .before .enum-told2 .given .1) in sym (length-take-le _ _ (omega arith))
 
 put-text-requires : tie.Need-put-text-requires
-put-text-requires c κs = let l = length-take-le (c .before .before .before .before .before .before .before .before .before .before .before .before .before .before .before .before .before .before .args .start + (c .before .before .before .before .before .before .before .before .before .before .before .before .before .before .before .before .before .before .args .size - 12) + (c .before .before .before .before .before .before .before .before .before .before .before .before .before .before .before .before .before .before .args .used - c .before .before .before .before .before .before .before .before .before .before .before .before .before .before .before .before .before .before .args .stop)) (c .before .before .before .before .before .before .before .before .try-text .last .1 .1 .1 .1 .1 .0) (omega arith) in (omega arith, omega arith)
+put-text-requires c κs = let m = judged-room _ _ _ _ _ _ _ _ (c .before .before .before .before .before .before .before .try-change .ensures) (c .before .before .enum-told2 .given .1) in
+    let l = length-take-le (c .before .before .before .before .before .before .before .try-change .result .used .text) (c .before .before .before .before .before .before .before .try-change .last .1 .1 .1 .1 .1 .1 .0) (omega arith) in (omega arith, omega arith)
 
 same-length : tie.Need-same-length
 same-length c = omega arith
@@ -98,13 +56,8 @@ same-length c = omega arith
 same-length-2 : tie.Need-same-length-2
 same-length-2 c = omega arith
 
-returns-3 : tie.Need-returns-3
-unfolding textOf
-returns-3 c = let b : Lent = lentOf (c .before .before .before .before .before .before .before .before .before .before .before .before .before .before .before .before .before .args .text .now) (c .before .before .before .before .before .before .before .before .before .before .before .before .before .before .before .before .before .args .used) (c .before .before .before .before .before .before .before .before .before .before .before .before .before .before .before .before .before .args .journal .now) (c .before .before .before .before .before .before .before .before .before .before .before .before .before .before .before .before .before .args .kept) in
-    let t = does-not (c .before .before .before .before .before .before .before .before .before .before .before .before .before .before .before .before .before .args .sw) _ (c .before .before .present .given .1) (c .before .before .before .before .before .before .before .try-text .ensures .1) in
-    shows-refused (c .before .before .before .before .before .before .before .before .before .before .before .before .before .before .before .before .before .args .sw) _ b _ _ _ _ _ 16
-    (refused-16 (c .before .before .before .before .before .before .before .before .before .before .before .before .before .before .before .before .before .args .sw) _ b (c .before .before .before .before .before .before .before .before .before .before .before .before .before .before .before .before .before .pre .0 .used-fits) (c .before .before .before .before .before .before .before .before .before .before .before .before .before .before .before .before .before .pre .0 .kept-fits) (c .before .before .before .before .before .before .before .before .before .before .before .before .before .before .before .before .before .args .start) (c .before .before .before .before .before .before .before .before .before .before .before .before .before .before .before .before .before .args .stop) (c .before .before .before .before .before .before .before .before .before .before .before .before .before .before .before .before .before .args .size) (c .before .before .before .before .before .before .before .before .before .before .before .before .before .before .before .before .before .pre .1) (omega arith) (t .0))
-    (omega arith) (c .refusal3 .ensures) (t .1)
+returns : tie.Need-returns
+returns c = undo-refused (c .before .before .before .before .before .before .before .before .before .before .before .before .before .before .before .args .present) (c .before .before .before .before .before .before .before .before .before .before .before .before .before .before .before .args .text .now) (c .before .before .before .before .before .before .before .before .before .before .before .before .before .before .before .args .journal .now) _ (c .before .before .before .before .before .before .before .before .before .before .before .before .before .before .before .pre .0 .text-fits) (c .before .before .before .before .before .before .before .before .before .before .before .before .before .before .before .pre .0 .journal-fits) (c .before .before .before .before .before .before .before .before .before .before .before .before .before .before .before .args .trailer) (c .before .before .before .before .before .before .before .before .before .before .before .before .before .before .before .pre .1) _ _ _ (c .before .before .before .before .before .try-change .ensures) _ (c .enum-told .given .1)
 
 same-length-3 : tie.Need-same-length-3
 same-length-3 c = omega arith
@@ -112,46 +65,28 @@ same-length-3 c = omega arith
 same-length-4 : tie.Need-same-length-4
 same-length-4 c = omega arith
 
-returns-4 : tie.Need-returns-4
-unfolding textOf
-returns-4 c = let b : Lent = lentOf (c .before .before .before .before .before .before .before .before .before .before .before .before .before .before .before .before .before .before .before .before .before .args .text .now) (c .before .before .before .before .before .before .before .before .before .before .before .before .before .before .before .before .before .before .before .before .before .args .used) (c .before .before .before .before .before .before .before .before .before .before .before .before .before .before .before .before .before .before .before .before .before .args .journal .now) (c .before .before .before .before .before .before .before .before .before .before .before .before .before .before .before .before .before .before .before .before .before .args .kept) in
-    let z = length-replicate {A = ℕ} 65536 0 in
-    let l = new-length (c .before .before .before .before .before .before .before .before .before .before .before .before .before .before .before .before .before .before .before .before .before .args .sw) 0 b (c .before .before .before .before .before .before .before .before .before .before .before .before .before .before .before .before .before .before .before .before .before .pre .0 .used-fits) (c .before .before .before .before .before .before .before .before .before .before .before .before .before .before .before .before .before .before .before .before .before .pre .0 .kept-fits) (c .before .before .before .before .before .before .before .before .before .before .before .before .before .before .before .before .before .before .before .before .before .args .start) (c .before .before .before .before .before .before .before .before .before .before .before .before .before .before .before .before .before .before .before .before .before .args .stop) (c .before .before .before .before .before .before .before .before .before .before .before .before .before .before .before .before .before .before .before .before .before .args .size) (c .before .before .before .before .before .before .before .before .before .before .before .before .before .before .before .before .before .before .before .before .before .pre .1) in
-    put-back (c .before .before .before .before .before .before .before .before .before .before .before .before .before .before .before .before .before .before .before .before .before .args .sw) _ b (c .before .before .before .before .before .before .before .before .before .before .before .before .before .before .before .before .before .before .before .before .before .pre .0 .used-fits) (c .before .before .before .before .before .before .before .before .before .before .before .before .before .before .before .before .before .before .before .before .before .pre .0 .kept-fits) (c .before .before .before .before .before .before .before .before .before .before .before .before .before .before .before .before .before .before .before .before .before .args .start) (c .before .before .before .before .before .before .before .before .before .before .before .before .before .before .before .before .before .before .before .before .before .args .stop) (c .before .before .before .before .before .before .before .before .before .before .before .before .before .before .before .before .before .before .before .before .before .args .size) (c .before .before .before .before .before .before .before .before .before .before .before .before .before .before .before .before .before .before .before .before .before .pre .1) (omega arith)
-    _ _ _ _ _ _ _ (does-read (c .before .before .before .before .before .before .before .before .before .before .before .before .before .before .before .before .before .before .before .before .before .args .sw) _ (c .before .before .before .before .before .before .count .given .1) (c .before .before .before .before .before .before .before .before .before .before .before .try-text .ensures .1)) refl refl refl
-    (front-is (c .before .before .before .before .before .before .before .before .before .before .before .before .before .before .before .before .before .before .before .before .before .args .start + (c .before .before .before .before .before .before .before .before .before .before .before .before .before .before .before .before .before .before .before .before .before .args .size - 12) + (c .before .before .before .before .before .before .before .before .before .before .before .before .before .before .before .before .before .before .before .before .before .args .used - c .before .before .before .before .before .before .before .before .before .before .before .before .before .before .before .before .before .before .before .before .before .args .stop)) _ (replicate 65536 0) _ (c .before .before .before .before .before .before .before .before .before .before .before .try-text .ensures .0) l (omega arith))
-    (c .before .before .put-text .ensures)
+returns-2 : tie.Need-returns-2
+returns-2 c = undo-done (c .before .before .before .before .before .before .before .before .before .before .before .before .before .before .before .before .before .before .before .before .args .present) (c .before .before .before .before .before .before .before .before .before .before .before .before .before .before .before .before .before .before .before .before .args .text .now) (c .before .before .before .before .before .before .before .before .before .before .before .before .before .before .before .before .before .before .before .before .args .journal .now) _ (c .before .before .before .before .before .before .before .before .before .before .before .before .before .before .before .before .before .before .before .before .pre .0 .text-fits) (c .before .before .before .before .before .before .before .before .before .before .before .before .before .before .before .before .before .before .before .before .pre .0 .journal-fits) (c .before .before .before .before .before .before .before .before .before .before .before .before .before .before .before .before .before .before .before .before .args .trailer) (c .before .before .before .before .before .before .before .before .before .before .before .before .before .before .before .before .before .before .before .before .pre .1) _ _ _ (c .before .before .before .before .before .before .before .before .before .before .try-change .ensures) _ (c .before .before .before .before .before .enum-told2 .given .1) (c .before .before .put-text .ensures)
 
 pub undo-entry-spec : {M : Type 1} → statement M
 undo-entry-spec =
     tie.close
     (tie.spec
-    sub-old
-    add-new
-    sub-new
-    add-new-2
-    refusal-requires
-    returns
-    refusal-requires-2
-    returns-2
     sub-end
-    slice-reshare-prefix-try-text
-    slice-aggregate-try-text
-    sub-try-text
-    sub-try-text-2
-    part-try-text-start
-    part-try-text-end
-    slice-aggregate-try-text-2
-    try-text-requires
-    enum-known-present
-    refusal-requires-3
-    enum-known-count
-    array-share-prefix-fresh
+    sub-try-change
+    sub-try-change-2
+    part-try-change-start
+    part-try-change-end
+    slice-aggregate-try-change
+    try-change-requires
+    enum-told
+    enum-told-2
+    array-share-prefix-draft
     slice-aggregate-put-text
     put-text-requires
     same-length
     same-length-2
-    returns-3
+    returns
     same-length-3
     same-length-4
-    returns-4)
+    returns-2)

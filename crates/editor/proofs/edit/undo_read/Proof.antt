@@ -3,15 +3,15 @@ use mathlib.Core.Path.{_≡_, refl, sym, ap, _∙_}
 use lib.Seq.{length-take-le}
 use Rattle.editor.specs.Edit.{lentOf, textOf, journalOf}
 use Rattle.editor.proofs.CallLaws.{shows-refused}
-use Rattle.editor.proofs.UndoCallLaws.{refused-17, refused-18, last-is}
+use Rattle.editor.proofs.UndoCallLaws.{refused-17, refused-18, trailer-is}
 use borrow.Author.Needs.{needs}
 use Rattle.editor.proofs.edit.undo_read.Statement.{statement}
 use Rattle.editor.proofs.edit.undo_read.Tie as tie
 use Rattle.editor.proofs.edit.undo_read.Reads as reads
 use Rattle.editor.proofs.edit.undo_read.Lts as lts
-use Rattle.editor.proofs.edit.refusal.Reads as refusal-reads
 use Rattle.editor.proofs.edit.undo_entry.Reads as undo-entry-reads
 use Rattle.editor.proofs.journal.last_entry.Reads as last-entry-reads
+use Rattle.editor.proofs.trial.refused.Reads as refused-reads
 
 slice-aggregate-last-entry : tie.Need-slice-aggregate-last-entry
 slice-aggregate-last-entry c = sym (length-take-le _ _ (omega arith))
@@ -28,39 +28,39 @@ last-entry-requires c κs = search needs
 enum-told : tie.Need-enum-told
 enum-told c = search needs
 
-refusal-requires : tie.Need-refusal-requires
-refusal-requires c κs = search needs
+refused-requires : tie.Need-refused-requires
+refused-requires c κs = search needs
 
 enum-told-2 : tie.Need-enum-told-2
 enum-told-2 c = search needs
 
-refusal-requires-2 : tie.Need-refusal-requires-2
-refusal-requires-2 c κs = search needs
+refused-requires-2 : tie.Need-refused-requires-2
+refused-requires-2 c κs = search needs
 
-enum-known-start : tie.Need-enum-known-start
-enum-known-start c = search needs
+enum-known-trailer : tie.Need-enum-known-trailer
+enum-known-trailer c = search needs
 
 undo-entry-requires : tie.Need-undo-entry-requires
 unfolding textOf journalOf
-undo-entry-requires c κs = (c .before .before .before .before .before .before .before .before .before .before .before .pre, last-is (c .before .before .before .before .before .before .before .before .before .before .before .args .sw) 0 (lentOf (c .before .before .before .before .before .before .before .before .before .before .before .args .text .now) (c .before .before .before .before .before .before .before .before .before .before .before .args .used) (c .before .before .before .before .before .before .before .before .before .before .before .args .journal .now) (c .before .before .before .before .before .before .before .before .before .before .before .args .kept)) (c .before .before .before .before .before .before .before .before .before .before .before .pre .used-fits) (c .before .before .before .before .before .before .before .before .before .before .before .pre .kept-fits) _ _ _ (sym (c .before .before .before .before .before .last-entry .ensures) ∙ c .before .before .before .start .given .1))
+undo-entry-requires c κs = (c .before .before .before .before .before .before .before .before .before .before .before .pre, trailer-is (c .before .before .before .before .before .before .before .before .before .before .before .args .present) (c .before .before .before .before .before .before .before .before .before .before .before .args .text .now) (c .before .before .before .before .before .before .before .before .before .before .before .args .journal .now) 0 (c .before .before .before .before .before .before .before .before .before .before .before .pre .text-fits) (c .before .before .before .before .before .before .before .before .before .before .before .pre .journal-fits) _ (sym (c .before .before .before .before .before .last-entry .ensures) ∙ c .before .before .before .trailer .given .1))
 
 same-length : tie.Need-same-length
 same-length c = omega arith
 
 returns : tie.Need-returns
 unfolding textOf journalOf
-returns c = shows-refused (c .before .before .before .before .before .before .before .before .before .args .sw) _ (lentOf (c .before .before .before .before .before .before .before .before .before .args .text .now) (c .before .before .before .before .before .before .before .before .before .args .used) (c .before .before .before .before .before .before .before .before .before .args .journal .now) (c .before .before .before .before .before .before .before .before .before .args .kept)) _ _ _ _ _ 17
-    (refused-17 (c .before .before .before .before .before .before .before .before .before .args .sw) _ (lentOf (c .before .before .before .before .before .before .before .before .before .args .text .now) (c .before .before .before .before .before .before .before .before .before .args .used) (c .before .before .before .before .before .before .before .before .before .args .journal .now) (c .before .before .before .before .before .before .before .before .before .args .kept)) (c .before .before .before .before .before .before .before .before .before .pre .used-fits) (c .before .before .before .before .before .before .before .before .before .pre .kept-fits) (sym (c .before .before .before .last-entry .ensures) ∙ c .before .enum-told .given .1))
-    (omega arith) (c .refusal .ensures) (c .before .before .before .before .before .before .before .before .before .pre .table-now)
+returns c = shows-refused (c .before .before .before .before .before .before .before .before .before .args .present .sw) _ (lentOf (c .before .before .before .before .before .before .before .before .before .args .text .now) (c .before .before .before .before .before .before .before .before .before .args .journal .now) (c .before .before .before .before .before .before .before .before .before .args .present .used)) _ _ _ _ _ 17
+    (refused-17 (c .before .before .before .before .before .before .before .before .before .args .present) (c .before .before .before .before .before .before .before .before .before .args .text .now) (c .before .before .before .before .before .before .before .before .before .args .journal .now) _ (c .before .before .before .before .before .before .before .before .before .pre .text-fits) (c .before .before .before .before .before .before .before .before .before .pre .journal-fits) (sym (c .before .before .before .last-entry .ensures) ∙ c .before .enum-told .given .1))
+    (omega arith) (c .refused .ensures) (c .before .before .before .before .before .before .before .before .before .pre .table-now)
 
 same-length-2 : tie.Need-same-length-2
 same-length-2 c = omega arith
 
 returns-2 : tie.Need-returns-2
 unfolding textOf journalOf
-returns-2 c = shows-refused (c .before .before .before .before .before .before .before .before .before .args .sw) _ (lentOf (c .before .before .before .before .before .before .before .before .before .args .text .now) (c .before .before .before .before .before .before .before .before .before .args .used) (c .before .before .before .before .before .before .before .before .before .args .journal .now) (c .before .before .before .before .before .before .before .before .before .args .kept)) _ _ _ _ _ 18
-    (refused-18 (c .before .before .before .before .before .before .before .before .before .args .sw) _ (lentOf (c .before .before .before .before .before .before .before .before .before .args .text .now) (c .before .before .before .before .before .before .before .before .before .args .used) (c .before .before .before .before .before .before .before .before .before .args .journal .now) (c .before .before .before .before .before .before .before .before .before .args .kept)) (c .before .before .before .before .before .before .before .before .before .pre .used-fits) (c .before .before .before .before .before .before .before .before .before .pre .kept-fits) (sym (c .before .before .before .last-entry .ensures) ∙ c .before .enum-told2 .given .1))
-    (omega arith) (c .refusal2 .ensures) (c .before .before .before .before .before .before .before .before .before .pre .table-now)
+returns-2 c = shows-refused (c .before .before .before .before .before .before .before .before .before .args .present .sw) _ (lentOf (c .before .before .before .before .before .before .before .before .before .args .text .now) (c .before .before .before .before .before .before .before .before .before .args .journal .now) (c .before .before .before .before .before .before .before .before .before .args .present .used)) _ _ _ _ _ 18
+    (refused-18 (c .before .before .before .before .before .before .before .before .before .args .present) (c .before .before .before .before .before .before .before .before .before .args .text .now) (c .before .before .before .before .before .before .before .before .before .args .journal .now) _ (c .before .before .before .before .before .before .before .before .before .pre .text-fits) (c .before .before .before .before .before .before .before .before .before .pre .journal-fits) (sym (c .before .before .before .last-entry .ensures) ∙ c .before .enum-told2 .given .1))
+    (omega arith) (c .refused2 .ensures) (c .before .before .before .before .before .before .before .before .before .pre .table-now)
 
 same-length-3 : tie.Need-same-length-3
 same-length-3 c = omega arith
@@ -81,10 +81,10 @@ undo-read-spec =
     slice-aggregate-last-entry-2
     last-entry-requires
     enum-told
-    refusal-requires
+    refused-requires
     enum-told-2
-    refusal-requires-2
-    enum-known-start
+    refused-requires-2
+    enum-known-trailer
     undo-entry-requires
     same-length
     returns

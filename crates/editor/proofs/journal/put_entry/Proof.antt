@@ -2,7 +2,7 @@ use native.Mathlib.Omega.{arith}
 use mathlib.Core.Path.{ap, _∙_}
 use Prim.Native.Nat.{_+_}
 use lib.ListN.{length}
-use Rattle.editor.specs.Edit.{le32, overwritten}
+use Rattle.editor.specs.Edit.{le32, trailerBytes, overwritten}
 use Rattle.editor.proofs.JournalLaws.{entry-put}
 use borrow.Author.Needs.{needs}
 use Rattle.editor.proofs.journal.put_entry.Statement.{statement}
@@ -15,8 +15,8 @@ use Rattle.editor.proofs.journal.put_number.Reads as put-number-reads
 put-at-requires : tie.Need-put-at-requires
 put-at-requires c κs = search needs
 
-add-at : tie.Need-add-at
-add-at c = omega arith
+add-end : tie.Need-add-end
+add-end c = omega arith
 
 put-number-requires : tie.Need-put-number-requires
 put-number-requires c κs = search needs
@@ -41,18 +41,18 @@ same-length c = omega arith
 
 returns : tie.Need-returns
 returns c = c .before .before .put-number3 .ensures
-    ∙ ap (overwritten (c .before .before .before .before .before .before .before .before .before .before .before .before .before .before .before .before .before .before .args .kept + length (c .before .before .before .before .before .before .before .before .before .before .before .before .before .before .before .before .before .before .args .old .now) + 8) (le32 (length (c .before .before .before .before .before .before .before .before .before .before .before .before .before .before .before .before .before .before .args .old .now) + 12)))
+    ∙ ap (overwritten (c .before .before .before .before .before .before .before .before .before .before .before .before .before .before .before .before .before .before .args .at + length (c .before .before .before .before .before .before .before .before .before .before .before .before .before .before .before .before .before .before .args .old .now) + 8) (le32 (length (c .before .before .before .before .before .before .before .before .before .before .before .before .before .before .before .before .before .before .args .old .now) + trailerBytes)))
     (c .before .before .before .before .before .before .put-number2 .ensures
-    ∙ ap (overwritten (c .before .before .before .before .before .before .before .before .before .before .before .before .before .before .before .before .before .before .args .kept + length (c .before .before .before .before .before .before .before .before .before .before .before .before .before .before .before .before .before .before .args .old .now) + 4) (le32 (c .before .before .before .before .before .before .before .before .before .before .before .before .before .before .before .before .before .before .args .new)))
-    (c .before .before .before .before .before .before .before .before .before .before .put-number .ensures ∙ ap (overwritten (c .before .before .before .before .before .before .before .before .before .before .before .before .before .before .before .before .before .before .args .kept + length (c .before .before .before .before .before .before .before .before .before .before .before .before .before .before .before .before .before .before .args .old .now)) (le32 (c .before .before .before .before .before .before .before .before .before .before .before .before .before .before .before .before .before .before .args .start))) (c .before .before .before .before .before .before .before .before .before .before .before .before .before .before .put-at .ensures)))
-    ∙ entry-put (c .before .before .before .before .before .before .before .before .before .before .before .before .before .before .before .before .before .before .args .journal .now) (c .before .before .before .before .before .before .before .before .before .before .before .before .before .before .before .before .before .before .args .old .now) (c .before .before .before .before .before .before .before .before .before .before .before .before .before .before .before .before .before .before .args .kept) (c .before .before .before .before .before .before .before .before .before .before .before .before .before .before .before .before .before .before .args .start) (c .before .before .before .before .before .before .before .before .before .before .before .before .before .before .before .before .before .before .args .new) (omega arith)
+    ∙ ap (overwritten (c .before .before .before .before .before .before .before .before .before .before .before .before .before .before .before .before .before .before .args .at + length (c .before .before .before .before .before .before .before .before .before .before .before .before .before .before .before .before .before .before .args .old .now) + 4) (le32 (c .before .before .before .before .before .before .before .before .before .before .before .before .before .before .before .before .before .before .args .new)))
+    (c .before .before .before .before .before .before .before .before .before .before .put-number .ensures ∙ ap (overwritten (c .before .before .before .before .before .before .before .before .before .before .before .before .before .before .before .before .before .before .args .at + length (c .before .before .before .before .before .before .before .before .before .before .before .before .before .before .before .before .before .before .args .old .now)) (le32 (c .before .before .before .before .before .before .before .before .before .before .before .before .before .before .before .before .before .before .args .start))) (c .before .before .before .before .before .before .before .before .before .before .before .before .before .before .put-at .ensures)))
+    ∙ entry-put (c .before .before .before .before .before .before .before .before .before .before .before .before .before .before .before .before .before .before .args .journal .now) (c .before .before .before .before .before .before .before .before .before .before .before .before .before .before .before .before .before .before .args .old .now) (c .before .before .before .before .before .before .before .before .before .before .before .before .before .before .before .before .before .before .args .at) (c .before .before .before .before .before .before .before .before .before .before .before .before .before .before .before .before .before .before .args .start) (c .before .before .before .before .before .before .before .before .before .before .before .before .before .before .before .before .before .before .args .new) (omega arith)
 
 pub put-entry-spec : {M : Type 1} → statement M
 put-entry-spec =
     tie.close
     (tie.spec
     put-at-requires
-    add-at
+    add-end
     put-number-requires
     add-put-number
     put-number-requires-2
