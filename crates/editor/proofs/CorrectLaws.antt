@@ -23,7 +23,7 @@ use Rattle.editor.specs.Edit.{Lent, lentOf, Result, textOf, splice, trai
 use Rattle.editor.specs.Internal.{changed, Knows, ReadNow, Stopped, changeRefusal, withReplacement, Within, Judged, replaced, correctedRead}
 use Rattle.editor.proofs.SpliceLaws.{length-part, take-withText}
 use Rattle.editor.proofs.EntryLaws.{length-trailer}
-use Rattle.editor.proofs.ReadLaws.{reads-short, row-within}
+use Rattle.editor.proofs.ReadLaws.{reads-short}
 use Rattle.editor.proofs.CallLaws.{part-front, Showing}
 use Rattle.editor.proofs.TrialLaws.{judged-refuses, judged-does}
 
@@ -117,10 +117,6 @@ module _ (p : Present) (text journal : List ℕ) (node : ℕ) (replacement table
     pub refused-13 : oneValue (p .sw) (ltb 0 node) replacement ≡ false → correctionRefusal (p .sw) words lent node replacement ≡ 13
     unfolding correctionRefusal
     refused-13 e = rw (lt-leb (nodeCount (reading (p .sw) words (textOf lent))) node is-node, e)
-
-    -- the node's words are in the table
-    pub words-in : nodeWords * node + nodeWords ≤ length table
-    words-in = row-within (p .sw) words node (textOf lent) is-node
 
     module _ (span : Span) (a : span .start ≡ wordOf table node 2) (z : span .stop ≡ wordOf table node 3) where
       start-is : span .start ≡ startOf (p .sw) words node (textOf lent)

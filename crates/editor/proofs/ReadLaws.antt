@@ -33,10 +33,3 @@ short-or sw any limits t P over e = go (leb (length t) maxText) refl e
 pub reads-short : (sw : Switches) (words : ℕ) (t : List ℕ) → reads sw words t ≡ true → length t ≤ maxText
 unfolding reads reading isTaken
 reads-short sw words t e = short-or sw false (limitsOf words) t isTaken refl e
-
--- the words of a node lie in the table
-pub row-within : (sw : Switches) (words node : ℕ) (t : List ℕ) → node < nodeCount (reading sw words t) → nodeWords * node + nodeWords ≤ words
-row-within sw words node t h =
-    let c = count-law sw words t in
-    let d = div-mul-le-self words nodeWords in
-    omega arith

@@ -22,8 +22,9 @@ use crate::trial::try_change;
 use reader::read::Reading;
 use reader::read::one_value;
 use reader::read::read_edition;
+use reader::rows;
 use reader::rows::clear;
-use reader::rows::word;
+use reader::rows::word_of;
 use text::refusal::BAD_ENTRY;
 use text::refusal::LENGTH_IN_USE;
 use text::refusal::NO_SUCH_NODE;
@@ -120,8 +121,8 @@ fn correct_read(
         return refused(present, NOT_ONE_VALUE);
     }
     let span = Span {
-        start: word(table, 12 * node + 2),
-        stop: word(table, 12 * node + 3),
+        start: word_of(table, node, rows::START),
+        stop: word_of(table, node, rows::STOP),
     };
     replace(present, text, journal, table, span, replacement)
 }

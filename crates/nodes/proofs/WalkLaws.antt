@@ -13,7 +13,7 @@ use Rattle.reader.specs.Reading.{wordOf}
 use Rattle.reader.proofs.TableLaws.{length-rows}
 use Rattle.nodes.specs.Nodes.{childrenOf, Numbered, nth}
 use Rattle.nodes.specs.Stands.{WordsAt, Node}
-use Rattle.nodes.proofs.WordLaws.{some-is, none-is, words-left, words-right, size-pos, heads, word-in, word-parent, word-next}
+use Rattle.nodes.proofs.WordLaws.{some-is, none-is, words-left, words-right, size-pos, heads, word-parent, word-next}
 
 -- the values f stand in the table side by side, the first as the node x: they are the last children of n
 pub record Ahead (table : List ℕ) (n x : ℕ) (f : Forest) : Type 0 where
@@ -142,11 +142,7 @@ module _ (P : ℕ → Forest → Type 0) (table : List ℕ) (n : ℕ) where
   pub walk-done : (x : ℕ) → Walk P table n x → wordOf table n 8 ≤ x → P x nil
   walk-done x W h = done-by x (W .rest) (W .ahead) (W .so) h
 
-  -- the words of the child lie in the table
-  pub walk-word : (x end w : ℕ) → Walk P table n x → end ≡ wordOf table n 8 → x < end → w < nodeWords → nodeWords * x + w < length table
-  walk-word x end w W e h l = let H = walk-here x W (omega arith) in word-in table x (H .value) (H .node) w l
-
-  -- and the next one comes after it
+  -- the next child comes after it
   pub walk-less : (x end y : ℕ) → Walk P table n x → end ≡ wordOf table n 8 → x < end → y ≡ wordOf table x 8 → (x < y) × (y ≤ end)
   walk-less x end y W e h q =
       let H = walk-here x W (omega arith) in

@@ -77,12 +77,6 @@ module _ (sw : Switches) (words : ℕ) (text path : List ℕ) where
   unfolding Fits
   found-node n e = subst (Fits (nodeCount (reading sw words text))) (sym e) found-fits
 
-  -- and stands in its table
-  pub found-stands : (n : ℕ) → F.At n ≡ found sw text path (reading sw words text) → Stands (tableOf words (reading sw words text)) n
-  found-stands n e =
-      let r = node-stands words n (reading sw words text) (found-node n e) in
-      record { value = r .0; node = r .2 }
-
   -- a refusal's place is at most 65536: a step's number is below the count of nodes
   pub found-place : (f : Refusal) → F.Refused f ≡ found sw text path (reading sw words text) → f .place ≤ 65536
   unfolding Fits

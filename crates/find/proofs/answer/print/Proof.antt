@@ -13,8 +13,6 @@ use Rattle.console.proofs.lines.refused.Reads as refused-reads
 use Rattle.find.proofs.answer.print_node.Reads as print-node-reads
 use Rattle.path.proofs.find.find.Reads as find-reads
 
-
-
 slice-aggregate-find : tie.Need-slice-aggregate-find
 slice-aggregate-find c = search needs
 

@@ -9,8 +9,6 @@ use Rattle.console.proofs.lines.refused.Reads as refused-reads
 use Rattle.list.proofs.listing.nodes.Reads as nodes-reads
 use Rattle.reader.proofs.read.read.Reads as read-reads
 
-
-
 slice-aggregate-read : tie.Need-slice-aggregate-read
 slice-aggregate-read c = search needs
 

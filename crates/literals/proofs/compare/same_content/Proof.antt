@@ -12,8 +12,6 @@ use Rattle.literals.proofs.compare.next_byte.Reads as next-byte-reads
 use Rattle.literals.proofs.compare.written_apart.Reads as written-apart-reads
 use Rattle.literals.proofs.decoder.start_of.Reads as start-of-reads
 
-
-
 abbrev Inv-loop : tie.InvT-loop
 Inv-loop sw a b left₀ right₀ left right = Both sw a b left₀ right₀ left right
 

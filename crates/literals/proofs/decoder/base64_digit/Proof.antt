@@ -10,8 +10,6 @@ use Rattle.literals.proofs.decoder.base64_digit.Lts as lts
 use Rattle.literals.proofs.decoder.silent.Reads as silent-reads
 use Rattle.literals.proofs.decoder.single.Reads as single-reads
 
-
-
 silent-requires : tie.Need-silent-requires
 silent-requires c κs = search needs
 

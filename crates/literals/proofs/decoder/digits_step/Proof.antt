@@ -14,8 +14,6 @@ use Rattle.literals.proofs.decoder.sextet.Reads as sextet-reads
 use Rattle.literals.proofs.decoder.silent.Reads as silent-reads
 use Rattle.literals.proofs.decoder.whole_bytes.Reads as whole-bytes-reads
 
-
-
 is-space-requires : tie.Need-is-space-requires
 is-space-requires c κs = search needs
 

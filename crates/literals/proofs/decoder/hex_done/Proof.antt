@@ -12,8 +12,6 @@ use Rattle.literals.proofs.decoder.scalar_done.Reads as scalar-done-rea
 use Rattle.literals.proofs.decoder.silent.Reads as silent-reads
 use Rattle.literals.proofs.decoder.single.Reads as single-reads
 
-
-
 cast-single : tie.Need-cast-single
 unfolding hexDone isScalar hexRoom
 cast-single c = let h = rw (c .if1 .taken) at (c .before .pre) in omega arith

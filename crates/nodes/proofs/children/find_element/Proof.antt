@@ -1,15 +1,13 @@
+-- made by tools/proof.py from answers/children/find_element (answers 6287630ae482, proof 67288e1307a2): edit that file, not this one
 use borrow.Author.Needs.{needs}
 use native.Mathlib.Omega.{arith}
 use mathlib.Core.Path.{sym, _∙_}
 use Prim.Native.Nat.{_<_, _+_, _*_, _-_}
 use lib.ListN.{length}
-use Rattle.nodes.proofs.WalkLaws.{walk-word, walk-less}
+use Rattle.nodes.proofs.WalkLaws.{walk-less}
 use Rattle.nodes.proofs.ChildLaws.{stands-word, ElementWalk, element-start, element-hit, element-on, element-end}
 use Rattle.nodes.proofs.children.find_element.Statement.{statement}
 use Rattle.nodes.proofs.children.find_element.Tie as tie
-use Rattle.nodes.proofs.children.find_element.Reads as reads
-use Rattle.nodes.proofs.children.find_element.Lts as lts
-use Rattle.nodes.proofs.words.word_of.Reads as word-of-reads
 
 abbrev Inv-loop : tie.InvT-loop
 Inv-loop table n i end left₀ x₀ left x = ElementWalk i table n left x
@@ -18,7 +16,7 @@ abbrev μ-loop : tie.MeasureT-loop
 μ-loop table n i end left₀ x₀ left x = end - x
 
 word-of-requires : tie.Need-word-of-requires Inv-loop μ-loop
-word-of-requires c κs = stands-word _ _ (c .before .pre) 8 (omega arith)
+word-of-requires c κs = search needs
 
 add-x : tie.Need-add-x Inv-loop μ-loop
 add-x c = let h = stands-word _ _ (c .before .before .pre) 8 (omega arith) in omega arith
@@ -33,10 +31,12 @@ sub-left : tie.Need-sub-left Inv-loop μ-loop
 sub-left c = omega arith
 
 word-of-requires-2 : tie.Need-word-of-requires-2 Inv-loop μ-loop
-word-of-requires-2 c κs = walk-word _ _ _ _ _ _ (c .before .before .loop .inv .of (c .before .before .before .before .before .pre .value) (c .before .before .before .before .before .pre .node)) (c .before .before .before .word-of .ensures) (omega arith) (omega arith)
+word-of-requires-2 c κs = search needs
 
 loop-less : tie.Need-loop-less Inv-loop μ-loop
-loop-less c = let l = walk-less _ _ _ _ _ _ (c .before .before .before .loop .inv .of (c .before .before .before .before .before .before .pre .value) (c .before .before .before .before .before .before .pre .node)) (c .before .before .before .before .word-of .ensures) (omega arith) (c .word-of2 .ensures) in omega arith
+loop-less c =
+    let the-pre = c .before .before .before .before .before .before .pre in
+    let l = walk-less _ _ _ _ _ _ (c .before .before .before .loop .inv .of (the-pre .value) (the-pre .node)) (c .before .before .before .before .word-of .ensures) (omega arith) (c .word-of2 .ensures) in omega arith
 
 loop-again : tie.Need-loop-again Inv-loop μ-loop
 loop-again c = element-on _ _ _ _ _ _ _ (c .before .before .before .loop .inv) (c .before .before .before .before .word-of .ensures) (omega arith) (c .before .if1 .left) (c .word-of2 .ensures)
@@ -46,16 +46,5 @@ returns-2 c = element-end _ _ _ _ _ _ (c .before .loop .inv) (c .before .before 
 
 pub find-element-spec : {M : Type 1} → statement M
 find-element-spec =
-    tie.close
-    (tie.spec
-    Inv-loop
-    μ-loop
-    word-of-requires
-    add-x
-    loop-holds
-    returns
-    sub-left
-    word-of-requires-2
-    loop-less
-    loop-again
-    returns-2)
+    tie.close (tie.spec Inv-loop μ-loop word-of-requires add-x loop-holds returns sub-left word-of-requires-2 loop-less
+    loop-again returns-2)

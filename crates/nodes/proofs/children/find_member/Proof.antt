@@ -1,17 +1,14 @@
+-- made by tools/proof.py from answers/children/find_member (answers 598c44d22894, proof e3f8c051fbe9): edit that file, not this one
 use borrow.Author.Needs.{needs}
 use native.Mathlib.Omega.{arith}
 use mathlib.Core.Path.{sym, _∙_}
 use Prim.Native.Nat.{_<_, _+_, _*_, _-_}
 use lib.ListN.{length}
 use Rattle.nodes.specs.Nodes.{hasKey}
-use Rattle.nodes.proofs.WalkLaws.{walk-word, walk-less}
+use Rattle.nodes.proofs.WalkLaws.{walk-less}
 use Rattle.nodes.proofs.ChildLaws.{stands-word, FirstWalk, first-start, member-hit, member-on, member-end}
 use Rattle.nodes.proofs.children.find_member.Statement.{statement}
 use Rattle.nodes.proofs.children.find_member.Tie as tie
-use Rattle.nodes.proofs.children.find_member.Reads as reads
-use Rattle.nodes.proofs.children.find_member.Lts as lts
-use Rattle.nodes.proofs.contents.span_content_is.Reads as span-content-is-reads
-use Rattle.nodes.proofs.words.word_of.Reads as word-of-reads
 
 abbrev Inv-loop : tie.InvT-loop
 Inv-loop sw text table n key end x₀ x = FirstWalk (hasKey sw text key) table n x
@@ -20,7 +17,7 @@ abbrev μ-loop : tie.MeasureT-loop
 μ-loop sw text table n key end x₀ x = end - x
 
 word-of-requires : tie.Need-word-of-requires Inv-loop μ-loop
-word-of-requires c κs = stands-word _ _ (c .before .before .before .pre) 8 (omega arith)
+word-of-requires c κs = search needs
 
 add-x : tie.Need-add-x Inv-loop μ-loop
 add-x c = let h = stands-word _ _ (c .before .before .before .before .pre) 8 (omega arith) in omega arith
@@ -29,10 +26,10 @@ loop-holds : tie.Need-loop-holds Inv-loop μ-loop
 loop-holds c = first-start _ _ _
 
 word-of-requires-2 : tie.Need-word-of-requires-2 Inv-loop μ-loop
-word-of-requires-2 c κs = walk-word _ _ _ _ _ _ (c .before .loop .inv .of (c .before .before .before .before .before .before .pre .value) (c .before .before .before .before .before .before .pre .node)) (c .before .before .word-of .ensures) (omega arith) (omega arith)
+word-of-requires-2 c κs = search needs
 
 word-of-requires-3 : tie.Need-word-of-requires-3 Inv-loop μ-loop
-word-of-requires-3 c κs = walk-word _ _ _ _ _ _ (c .before .before .loop .inv .of (c .before .before .before .before .before .before .before .pre .value) (c .before .before .before .before .before .before .before .pre .node)) (c .before .before .before .word-of .ensures) (omega arith) (omega arith)
+word-of-requires-3 c κs = search needs
 
 span-content-is-requires : tie.Need-span-content-is-requires Inv-loop μ-loop
 span-content-is-requires c κs = search needs
@@ -41,10 +38,12 @@ returns : tie.Need-returns Inv-loop μ-loop
 returns c = member-hit _ _ _ _ _ _ _ _ _ _ (c .before .before .before .before .before .loop .inv) (c .before .before .before .before .before .before .word-of .ensures) (omega arith) (c .before .before .before .word-of2 .ensures) (c .before .before .word-of3 .ensures) (c .before .span-content-is .ensures) (c .if1 .taken)
 
 word-of-requires-4 : tie.Need-word-of-requires-4 Inv-loop μ-loop
-word-of-requires-4 c κs = walk-word _ _ _ _ _ _ (c .before .before .before .before .before .loop .inv .of (c .before .before .before .before .before .before .before .before .before .before .pre .value) (c .before .before .before .before .before .before .before .before .before .before .pre .node)) (c .before .before .before .before .before .before .word-of .ensures) (omega arith) (omega arith)
+word-of-requires-4 c κs = search needs
 
 loop-less : tie.Need-loop-less Inv-loop μ-loop
-loop-less c = let l = walk-less _ _ _ _ _ _ (c .before .before .before .before .before .before .loop .inv .of (c .before .before .before .before .before .before .before .before .before .before .before .pre .value) (c .before .before .before .before .before .before .before .before .before .before .before .pre .node)) (c .before .before .before .before .before .before .before .word-of .ensures) (omega arith) (c .word-of4 .ensures) in omega arith
+loop-less c =
+    let the-pre = c .before .before .before .before .before .before .before .before .before .before .before .pre in
+    let l = walk-less _ _ _ _ _ _ (c .before .before .before .before .before .before .loop .inv .of (the-pre .value) (the-pre .node)) (c .before .before .before .before .before .before .before .word-of .ensures) (omega arith) (c .word-of4 .ensures) in omega arith
 
 loop-again : tie.Need-loop-again Inv-loop μ-loop
 loop-again c = member-on _ _ _ _ _ _ _ _ _ _ _ (c .before .before .before .before .before .before .loop .inv) (c .before .before .before .before .before .before .before .word-of .ensures) (omega arith) (c .before .before .before .before .word-of2 .ensures) (c .before .before .before .word-of3 .ensures) (c .before .before .span-content-is .ensures) (c .before .if1 .left) (c .word-of4 .ensures)
@@ -54,18 +53,5 @@ returns-2 c = member-end _ _ _ _ _ _ _ (c .before .loop .inv) (c .before .before
 
 pub find-member-spec : {M : Type 1} → statement M
 find-member-spec =
-    tie.close
-    (tie.spec
-    Inv-loop
-    μ-loop
-    word-of-requires
-    add-x
-    loop-holds
-    word-of-requires-2
-    word-of-requires-3
-    span-content-is-requires
-    returns
-    word-of-requires-4
-    loop-less
-    loop-again
-    returns-2)
+    tie.close (tie.spec Inv-loop μ-loop word-of-requires add-x loop-holds word-of-requires-2 word-of-requires-3
+    span-content-is-requires returns word-of-requires-4 loop-less loop-again returns-2)

@@ -1,3 +1,4 @@
+-- made by tools/proof.py from answers/find/+follow_on (answers 7594bb8b951e, proof 502ffeb5f5aa): edit that file, not this one
 use borrow.Author.Needs.{needs}
 use native.Mathlib.Omega.{arith}
 use mathlib.Core.Path.{refl, sym, _∙_}
@@ -64,16 +65,22 @@ follow-on-add-follow-on-2 : (t : ℕ) → follow-on-lts.Need-add-follow-on-2 (fo
 follow-on-add-follow-on-2 t c = omega (arith, c .before .before .before .before .before .before .before .before .before .before .before .pre .1 .1)
 
 follow-on-follow-on-requires : (t : ℕ) → follow-on-lts.Need-follow-on-requires (follow-on-calls t) (follow-on-at t) follow-on.Post
-follow-on-follow-on-requires t c κs = let w = front-le isStepByte (c .before .before .before .before .before .before .before .before .before .before .before .args .path .now) in let q = c .before .before .before .before .before .before .before .step-end .ensures in
-    let f = fewer-steps (c .before .before .before .before .before .before .before .before .before .before .before .args .path .now) _ (c .before .before .before .before .before .before .before .step-end .ensures) (omega arith) in
-    (omega arith, (gone-stands _ _ _ _ _ _ (c .before .before .before .before .before .find-child .ensures) _ (c .before .before .before .m .given .1) (c .before .before .before .before .before .before .before .before .before .before .before .pre .1 .0), omega (arith, c .before .before .before .before .before .before .before .before .before .before .before .pre .1 .1)))
+follow-on-follow-on-requires t c κs =
+    let the-args = c .before .before .before .before .before .before .before .before .before .before .before .args in
+    let the-step-end = c .before .before .before .before .before .before .before .step-end in
+    let the-pre = c .before .before .before .before .before .before .before .before .before .before .before .pre in
+    let w = front-le isStepByte (the-args .path .now) in let q = the-step-end .ensures in
+    let f = fewer-steps (the-args .path .now) _ (the-step-end .ensures) (omega arith) in
+    (omega arith, (gone-stands _ _ _ _ _ _ (c .before .before .before .before .before .find-child .ensures) _ (c .before .before .before .m .given .1) (the-pre .1 .0), omega (arith, the-pre .1 .1)))
 
 follow-on-enum-told : (t : ℕ) → follow-on-lts.Need-enum-told (follow-on-calls t) (follow-on-at t) follow-on.Post
 follow-on-enum-told t c = search needs
 
 follow-on-returns-2 : (t : ℕ) → follow-on-lts.Need-returns-2 (follow-on-calls t) (follow-on-at t) follow-on.Post
-follow-on-returns-2 t c = let w = front-le isStepByte (c .before .before .before .before .before .before .before .before .before .before .before .before .args .path .now) in let q = c .before .before .before .before .before .before .before .before .step-end .ensures in
-    follow-next _ _ _ _ _ _ _ _ (c .before .before .before .before .before .before .before .before .step-end .ensures) (c .before .before .before .before .before .before .find-child .ensures) _ _ (c .before .before .before .before .m .given .1) (omega arith) (c .follow-on .ensures)
+follow-on-returns-2 t c =
+    let the-step-end = c .before .before .before .before .before .before .before .before .step-end in
+    let w = front-le isStepByte (c .before .before .before .before .before .before .before .before .before .before .before .before .args .path .now) in let q = the-step-end .ensures in
+    follow-next _ _ _ _ _ _ _ _ (the-step-end .ensures) (c .before .before .before .before .before .before .find-child .ensures) _ _ (c .before .before .before .before .m .given .1) (omega arith) (c .follow-on .ensures)
 
 follow-on-returns-3 : (t : ℕ) → follow-on-lts.Need-returns-3 (follow-on-calls t) (follow-on-at t) follow-on.Post
 follow-on-returns-3 t c = follow-missing _ _ _ _ _ _ _ _ (c .before .before .before .before .step-end .ensures) (c .before .before .find-child .ensures) (c .enum-told .given .1)
