@@ -6,26 +6,28 @@ use native.Mathlib.Omega.{arith}
 use mathlib.Core.Bool.{Bool, true, false, cond}
 use mathlib.Core.List.{List}
 use lib.Dec.{eqb}
+use Rattle.text.specs.declared.refusal.Refusal.{Refusal}
+use Rattle.text.specs.Refusal.{refusal}
 use Rattle.text.specs.declared.switches.Switches.{Switches}
 use Rattle.text.proofs.Choice.{cond-both}
 use Rattle.reader.specs.Syntax.{Outcome, taken, refused}
-use Rattle.reader.specs.Reading.{reading}
+use Rattle.reader.specs.Reading.{reading, maxText}
 use Rattle.reader.proofs.PlaceBound.{PlaceWithin, place-law}
-use Rattle.editor.specs.declared.edit.Verdict.{Verdict}
-use Rattle.editor.specs.declared.edit.Verdict.the-variants as A
-use Rattle.editor.specs.declared.edit.Change.{Change}
-use Rattle.editor.specs.Edit.{Lent, Answer, Result, textOf, verdictOf, changeOf, Shows, badLength, lengthRefused, answered, decided, onceRead, correctionRefusal, withCorrection, correct, undoRefusal, withUndo, undo}
-use Rattle.duper.specs.Numbers.{changeNumber, changeWords, Crosses}
+use Rattle.editor.specs.declared.change.Verdict.{Verdict}
+use Rattle.editor.specs.declared.change.Verdict.the-variants as A
+use Rattle.editor.specs.declared.change.Change.{Change}
+use Rattle.editor.specs.Edit.{Lent, Report, Result, textOf, verdictOf, changeOf, leaving, Shows, badLength, lengthRefused, resultOf, decided, onceRead, correctionRefusal, withCorrection, correct, undoRefusal, withUndo, undo}
+use Rattle.duper.specs.Numbers.{packed, changeNumber, changeWords, crossing, crossed}
 use Rattle.duper.specs.Internal.{verdictNumber, PlaceFits, wordsOf}
 
 -- ---- places
 
 SmallPlace : Result → Type 0
-SmallPlace r = r .answer .place ≤ 65536
+SmallPlace r = r .answer .place ≤ maxText
 
 module _ (sw : Switches) (words : ℕ) (b : Lent) (refusal : ℕ) (new : Lent) where
-  read-place : (o : Outcome) → PlaceWithin 65536 o → SmallPlace (onceRead sw words b o refusal new)
-  unfolding onceRead decided answered SmallPlace PlaceWithin
+  read-place : (o : Outcome) → PlaceWithin maxText o → SmallPlace (onceRead sw words b o refusal new)
+  unfolding onceRead decided resultOf SmallPlace PlaceWithin
   read-place (taken tree) h = cond-both SmallPlace (eqb refusal 0) (λ _. omega arith) (λ _. omega arith)
   read-place (refused number place) h = h
 
@@ -34,19 +36,19 @@ module _ (sw : Switches) (words : ℕ) (b : Lent) (refusal : ℕ) (new : Lent) w
   opened-place =
       cond-both SmallPlace (badLength b) (λ _. omega arith) (λ _. read-place (reading sw words (textOf b)) (place-law sw words (textOf b)))
 
-pub correct-place : (sw : Switches) (words : ℕ) (b : Lent) (node : ℕ) (replacement : List ℕ) → correct sw words b node replacement .answer .place ≤ 65536
+pub correct-place : (sw : Switches) (words : ℕ) (b : Lent) (node : ℕ) (replacement : List ℕ) → correct sw words b node replacement .answer .place ≤ maxText
 unfolding correct SmallPlace
 correct-place sw words b node replacement =
     opened-place sw words b (correctionRefusal sw words b node replacement) (withCorrection sw words b node replacement)
 
-pub undo-place : (sw : Switches) (words : ℕ) (b : Lent) → undo sw words b .answer .place ≤ 65536
+pub undo-place : (sw : Switches) (words : ℕ) (b : Lent) → undo sw words b .answer .place ≤ maxText
 unfolding undo SmallPlace
 undo-place sw words b = opened-place sw words b (undoRefusal sw words b) (withUndo b)
 
 -- ---- numbers
 
-module _ (a : Answer) where
-  verdict-fits : a .place ≤ 65536 → PlaceFits (changeOf a .verdict)
+module _ (a : Report) where
+  verdict-fits : a .place ≤ maxText → PlaceFits (changeOf a .verdict)
   unfolding changeOf verdictOf PlaceFits
   verdict-fits h = cond-both PlaceFits (eqb (a .number) 0) (λ _. tt) (λ _. h)
 
@@ -54,20 +56,21 @@ module _ (a : Answer) where
   unfolding changeOf verdictOf verdictNumber changeNumber
   verdict-number = by (eqb (a .number) 0)
     where
-      by : (t : Bool) → verdictNumber (cond t A.Done (A.Refused (a .number) (a .place))) ≡ cond t 0 (a .number * 4294967296 + a .place)
+      by : (t : Bool) → verdictNumber (cond t A.Done (A.Refused (refusal (a .number) (a .place)))) ≡ cond t 0 (packed (refusal (a .number) (a .place)))
       by true = refl
       by false = refl
 
-pub fits : {result : Result} {r : Change} {text journal table : List ℕ} → result .answer .place ≤ 65536 → Shows result r text journal table → PlaceFits (r .verdict)
-fits {result} h s = rw (s .answer) (verdict-fits (result .answer) h)
+pub fits : {result : Result} {r : Change} {text journal table : List ℕ} → result .answer .place ≤ maxText → Shows changeOf result (leaving r text journal table) → PlaceFits (r .verdict)
+fits {result} h s = rw (s .answer-is) (verdict-fits (result .answer) h)
 
-pub crosses : {result : Result} {r : Change} {text journal table answer : List ℕ} {n : ℕ} → Shows result r text journal table → n ≡ verdictNumber (r .verdict)
-    → answer ≡ wordsOf r → Crosses result n text journal table answer
-unfolding wordsOf changeOf changeWords
+pub crosses : {result : Result} {r : Change} {text journal table answer : List ℕ} {n : ℕ} → Shows changeOf result (leaving r text journal table) → n ≡ verdictNumber (r .verdict)
+    → answer ≡ wordsOf r → Shows crossed result (leaving (crossing n answer) text journal table)
+unfolding wordsOf changeOf changeWords crossed
 crosses {result} {r} s e f =
     record {
-      number-is = e ∙ ap (λ (c : Change). verdictNumber (c .verdict)) (s .answer) ∙ verdict-number (result .answer);
-      answer-is = f ∙ ap wordsOf (s .answer);
+      answer-is = λ i. crossing
+          ((e ∙ ap (λ (c : Change). verdictNumber (c .verdict)) (s .answer-is) ∙ verdict-number (result .answer)) i)
+          ((f ∙ ap wordsOf (s .answer-is)) i);
       text-is = s .text-is;
       journal-is = s .journal-is;
       table-is = s .table-is;
@@ -80,11 +83,11 @@ module _ {v : Verdict} where
   unfolding verdictNumber
   told-done e = sym (ap verdictNumber e)
 
-  module _ {number place : ℕ} (e : v ≡ A.Refused number place) where
-    pub told-refused : number * 4294967296 + place ≡ verdictNumber v
+  module _ {f : Refusal} (e : v ≡ A.Refused f) where
+    pub told-refused : packed f ≡ verdictNumber v
     unfolding verdictNumber
     told-refused = sym (ap verdictNumber e)
 
-    pub told-place : PlaceFits v → place ≤ 65536
+    pub told-place : PlaceFits v → f .place ≤ maxText
     unfolding PlaceFits
     told-place h = subst PlaceFits e h

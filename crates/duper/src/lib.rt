@@ -1,24 +1,35 @@
 // The calls for C and Rust: each answers one 64-bit number. A slice crosses as its pointer and its count of elements.
 ghost use mathlib.Core.Path.{_≡_};
 ghost use mathlib.Core.List.{[], _∷_};
+ghost use Prim.Native.Nat.{_≤_};
 ghost use lib.ListN.{length};
 ghost use Rattle.text.specs.Switches.{presentEdition};
 ghost use Rattle.text.specs.Utf8.{utf8, wholeFront, plainEights};
-ghost use Rattle.reader.specs.Reading.{reading, tableOf};
-ghost use Rattle.reader.specs.Content.{contentCall, written, contentNumber};
-ghost use Rattle.editor.specs.Edit.{lentOf, correct, undo};
+ghost use Rattle.reader.specs.Reading.{reading, tableOf, maxText};
+ghost use Rattle.reader.specs.Content.{contentCall, written};
+ghost use Rattle.editor.specs.Edit.{inUse, lentOf, leaving, Shows, correct, undo};
 ghost use Rattle.path.specs.Path.{found};
 ghost use Rattle.summary.specs.Summary.{summary};
-ghost use Rattle.duper.specs.Numbers.{readNumber, foundNumber, Crosses, SummaryCrosses};
+ghost use Rattle.duper.specs.Numbers.{packed, contentNumber, readNumber, crossing, crossed, foundNumber, SummaryCrosses};
 ghost use Rattle.duper.specs.Internal.{verdictNumber, PlaceFits, wordsOf};
-use editor::edit::Change;
-use editor::edit::Verdict;
+use editor::change::Change;
+use editor::change::InUse;
+use editor::change::Verdict;
 use path::find::Found;
 use reader::content::Given;
 use reader::read::Reading;
 use summary::summary::Counts;
 use summary::summary::Summary;
+use text::refusal::Refusal;
 use text::utf8::check_utf8;
+
+// A refusal as one number: its own times 4294967296, plus its place.
+fn packed(refusal: Refusal) -> u64
+    requires { ⌜ refusal .place ≤ maxText ⌝ }
+    ensures { λ r. ⌜ r ≡ packed refusal ⌝ }
+{
+    refusal.number as u64 * 4294967296 + refusal.place as u64
+}
 
 // Checks bytes as UTF-8: the length of their longest front that is. `eights` is then how many times the check passed over eight bytes below
 // 80 hex in one step.
@@ -38,7 +49,7 @@ pub extern "C" fn duper_read(text: &[u8], table: &mut [u32]) -> u64
 {
     match reader::read::read(text, table) {
         Reading::Taken(nodes) => nodes as u64,
-        Reading::Refused(number, place) => number as u64 * 4294967296 + place as u64,
+        Reading::Refused(refusal) => packed(refusal),
     }
 }
 
@@ -50,7 +61,7 @@ pub extern "C" fn duper_content(text: &[u8], start: u64, end: u64, out: &mut [u8
 {
     match reader::content::content(text, start as usize, end as usize, out) {
         Given::Bytes(count) => count as u64,
-        Given::Refused(number) => number as u64 * 4294967296,
+        Given::Refused(number) => packed(Refusal { number, place: 0 }),
     }
 }
 
@@ -59,11 +70,15 @@ fn tell(change: Change, answer: &mut [u64; 3]) -> u64
     requires { ⌜ PlaceFits (change .verdict) ⌝ }
     ensures { λ r. ⌜ (r ≡ verdictNumber (change .verdict)) × (now (answer .exit) ≡ wordsOf change) ⌝ }
 {
-    *answer = [change.nodes as u64, change.used as u64, change.kept as u64];
+    *answer = [
+        change.nodes as u64,
+        change.used.text as u64,
+        change.used.journal as u64,
+    ];
     let verdict = change.verdict;
     match verdict {
         Verdict::Done => 0,
-        Verdict::Refused(number, place) => number as u64 * 4294967296 + place as u64,
+        Verdict::Refused(refusal) => packed(refusal),
     }
 }
 
@@ -80,9 +95,13 @@ pub extern "C" fn duper_correct(
     replacement: &[u8],
     answer: &mut [u64; 3],
 ) -> u64
-    ensures { λ r. ⌜ Crosses (correct presentEdition (length (now (table .entry))) (lentOf (now (text .entry)) used (now (journal .entry)) kept) node (now (replacement .entry))) r (now (text .exit)) (now (journal .exit)) (now (table .exit)) (now (answer .exit)) ⌝ }
+    ensures { λ r. ⌜ Shows crossed (correct presentEdition (length (now (table .entry))) (lentOf (now (text .entry)) (now (journal .entry)) (inUse used kept)) node (now (replacement .entry))) (leaving (crossing r (now (answer .exit))) (now (text .exit)) (now (journal .exit)) (now (table .exit))) ⌝ }
 {
-    let change = editor::edit::correct(text, used, journal, kept, table, node, replacement);
+    let lengths = InUse {
+        text: used,
+        journal: kept,
+    };
+    let change = editor::edit::correct(text, journal, lengths, table, node, replacement);
     tell(change, answer)
 }
 
@@ -96,9 +115,13 @@ pub extern "C" fn duper_undo(
     table: &mut [u32],
     answer: &mut [u64; 3],
 ) -> u64
-    ensures { λ r. ⌜ Crosses (undo presentEdition (length (now (table .entry))) (lentOf (now (text .entry)) used (now (journal .entry)) kept)) r (now (text .exit)) (now (journal .exit)) (now (table .exit)) (now (answer .exit)) ⌝ }
+    ensures { λ r. ⌜ Shows crossed (undo presentEdition (length (now (table .entry))) (lentOf (now (text .entry)) (now (journal .entry)) (inUse used kept))) (leaving (crossing r (now (answer .exit))) (now (text .exit)) (now (journal .exit)) (now (table .exit))) ⌝ }
 {
-    let change = editor::edit::undo(text, used, journal, kept, table);
+    let lengths = InUse {
+        text: used,
+        journal: kept,
+    };
+    let change = editor::edit::undo(text, journal, lengths, table);
     tell(change, answer)
 }
 
@@ -110,7 +133,7 @@ pub extern "C" fn duper_find(text: &[u8], table: &mut [u32], path: &[u8]) -> u64
 {
     match path::find::find(text, table, path) {
         Found::At(node) => node as u64,
-        Found::Refused(number, place) => number as u64 * 4294967296 + place as u64,
+        Found::Refused(refusal) => packed(refusal),
     }
 }
 
@@ -137,6 +160,6 @@ pub extern "C" fn duper_summary(
             *counts = [c.measured, c.null, c.absent, c.unfit];
             0
         }
-        Summary::Refused(number, place) => number as u64 * 4294967296 + place as u64,
+        Summary::Refused(refusal) => packed(refusal),
     }
 }

@@ -52,8 +52,3 @@ written (refused number) out = out
 unfoldable pub contentGiven : ContentAnswer → Given
 contentGiven (given content) = G.Bytes (length content)
 contentGiven (refused number) = G.Refused number
-
--- "refusal times 4294967296 plus the bytes written"
-unfoldable pub contentNumber : ContentAnswer → ℕ
-contentNumber (given content) = length content
-contentNumber (refused number) = number * 4294967296

@@ -6,6 +6,7 @@ use Rattle.duper.proofs.duper_content.Statement.{statement}
 use Rattle.duper.proofs.duper_content.Tie as tie
 use Rattle.duper.proofs.duper_content.Reads as reads
 use Rattle.duper.proofs.duper_content.Lts as lts
+use Rattle.duper.proofs.packed.Reads as packed-reads
 use Rattle.reader.proofs.content.content.Reads as content-reads
 
 content-requires : tie.Need-content-requires
@@ -17,11 +18,8 @@ enum-known-count c = search needs
 enum-known-number : tie.Need-enum-known-number
 enum-known-number c = search needs
 
-cast-result : tie.Need-cast-result
-cast-result c = omega arith
-
-mul-result : tie.Need-mul-result
-mul-result c = omega arith
+packed-requires : tie.Need-packed-requires
+packed-requires c κs = search needs
 
 same-length : tie.Need-same-length
 same-length c = omega arith
@@ -33,7 +31,7 @@ same-length-2 : tie.Need-same-length-2
 same-length-2 c = omega arith
 
 returns-2 : tie.Need-returns-2
-returns-2 c = (declined-number _ _ (sym (c .before .number .given .1) ∙ c .before .before .before .before .before .content .ensures .0), c .before .before .before .before .before .content .ensures .1)
+returns-2 c = (c .packed .ensures ∙ declined-number _ _ (sym (c .before .before .number .given .1) ∙ c .before .before .before .before .before .before .content .ensures .0), c .before .before .before .before .before .before .content .ensures .1)
 
 pub duper-content-spec : {M : Type 1} → statement M
 duper-content-spec =
@@ -42,8 +40,7 @@ duper-content-spec =
     content-requires
     enum-known-count
     enum-known-number
-    cast-result
-    mul-result
+    packed-requires
     same-length
     returns
     same-length-2

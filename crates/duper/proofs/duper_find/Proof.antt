@@ -1,6 +1,5 @@
 use native.Mathlib.Omega.{arith}
 use mathlib.Core.Path.{sym, _∙_}
-use native.Mathlib.Omega.{arith}
 use lib.ListN.{length}
 use Rattle.text.specs.Switches.{presentEdition}
 use Rattle.path.proofs.FoundLaws.{found-place}
@@ -10,6 +9,7 @@ use Rattle.duper.proofs.duper_find.Statement.{statement}
 use Rattle.duper.proofs.duper_find.Tie as tie
 use Rattle.duper.proofs.duper_find.Reads as reads
 use Rattle.duper.proofs.duper_find.Lts as lts
+use Rattle.duper.proofs.packed.Reads as packed-reads
 use Rattle.path.proofs.find.find.Reads as find-reads
 
 find-requires : tie.Need-find-requires
@@ -18,17 +18,11 @@ find-requires c κs = search needs
 enum-known-node : tie.Need-enum-known-node
 enum-known-node c = search needs
 
-enum-known-number : tie.Need-enum-known-number
-enum-known-number c = search needs
+enum-known-refusal : tie.Need-enum-known-refusal
+enum-known-refusal c = search needs
 
-cast-result : tie.Need-cast-result
-cast-result c = omega arith
-
-mul-result : tie.Need-mul-result
-mul-result c = omega arith
-
-add-result : tie.Need-add-result
-add-result c = omega (arith, found-place presentEdition (length (c .before .before .before .before .before .before .before .before .before .before .args .table .now)) (c .before .before .before .before .before .before .before .before .before .before .args .text .now) (c .before .before .before .before .before .before .before .before .before .before .args .path .now) _ _ (sym (c .before .number .given .1) ∙ c .before .before .before .before .before .find .ensures .0))
+packed-requires : tie.Need-packed-requires
+packed-requires c κs = found-place presentEdition (length (c .before .before .before .before .before .before .before .before .before .before .args .table .now)) (c .before .before .before .before .before .before .before .before .before .before .args .text .now) (c .before .before .before .before .before .before .before .before .before .before .args .path .now) _ (sym (c .before .refusal .given .1) ∙ c .before .before .before .before .before .find .ensures .0)
 
 same-length : tie.Need-same-length
 same-length c = omega arith
@@ -40,7 +34,7 @@ same-length-2 : tie.Need-same-length-2
 same-length-2 c = omega arith
 
 returns-2 : tie.Need-returns-2
-returns-2 c = (step-number _ _ _ (sym (c .before .number .given .1) ∙ c .before .before .before .before .before .find .ensures .0), c .before .before .before .before .before .find .ensures .1)
+returns-2 c = (c .packed .ensures ∙ step-number _ _ (sym (c .before .before .refusal .given .1) ∙ c .before .before .before .before .before .before .find .ensures .0), c .before .before .before .before .before .before .find .ensures .1)
 
 pub duper-find-spec : {M : Type 1} → statement M
 duper-find-spec =
@@ -48,10 +42,8 @@ duper-find-spec =
     (tie.spec
     find-requires
     enum-known-node
-    enum-known-number
-    cast-result
-    mul-result
-    add-result
+    enum-known-refusal
+    packed-requires
     same-length
     returns
     same-length-2

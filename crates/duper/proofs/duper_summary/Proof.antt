@@ -1,6 +1,5 @@
 use native.Mathlib.Omega.{arith}
-use mathlib.Core.Path.{sym, _∙_}
-use native.Mathlib.Omega.{arith}
+use mathlib.Core.Path.{sym, ap, _∙_}
 use lib.ListN.{length}
 use Rattle.text.specs.Switches.{presentEdition}
 use Rattle.summary.proofs.AnswerLaws.{summary-place}
@@ -11,6 +10,7 @@ use Rattle.duper.proofs.duper_summary.Statement.{statement}
 use Rattle.duper.proofs.duper_summary.Tie as tie
 use Rattle.duper.proofs.duper_summary.Reads as reads
 use Rattle.duper.proofs.duper_summary.Lts as lts
+use Rattle.duper.proofs.packed.Reads as packed-reads
 use Rattle.summary.proofs.summary.summarize.Reads as summarize-reads
 
 summarize-requires : tie.Need-summarize-requires
@@ -22,17 +22,11 @@ enum-known-c c = search needs
 enum-known-c-2 : tie.Need-enum-known-c-2
 enum-known-c-2 c = search needs
 
-enum-known-number : tie.Need-enum-known-number
-enum-known-number c = search needs
+enum-known-refusal : tie.Need-enum-known-refusal
+enum-known-refusal c = search needs
 
-cast-result : tie.Need-cast-result
-cast-result c = omega arith
-
-mul-result : tie.Need-mul-result
-mul-result c = omega arith
-
-add-result : tie.Need-add-result
-add-result c = omega (arith, summary-place presentEdition (length (c .before .before .before .before .before .before .before .before .before .args .table .now)) (c .before .before .before .before .before .before .before .before .before .args .text .now) _ _ (sym (c .before .number .given .1) ∙ c .before .before .before .before .before .summarize .ensures .0))
+packed-requires : tie.Need-packed-requires
+packed-requires c κs = summary-place presentEdition (length (c .before .before .before .before .before .before .before .before .before .args .table .now)) (c .before .before .before .before .before .before .before .before .before .args .text .now) _ (sym (c .before .refusal .given .1) ∙ c .before .before .before .before .before .summarize .ensures .0)
 
 same-length : tie.Need-same-length
 same-length c = omega arith
@@ -53,7 +47,7 @@ same-length-3 c = omega arith
 
 returns-3 : tie.Need-returns-3
 unfolding summaryNumber summaryCounts summaryHeights
-returns-3 c = (crosses _ _ _ _ (sym (c .before .number .given .1) ∙ c .before .before .before .before .before .summarize .ensures .0), c .before .before .before .before .before .summarize .ensures .1)
+returns-3 c = (rw (c .packed .ensures) (crosses _ _ _ _ (sym (c .before .before .refusal .given .1) ∙ c .before .before .before .before .before .before .summarize .ensures .0)), c .before .before .before .before .before .before .summarize .ensures .1)
 
 pub duper-summary-spec : {M : Type 1} → statement M
 duper-summary-spec =
@@ -62,10 +56,8 @@ duper-summary-spec =
     summarize-requires
     enum-known-c
     enum-known-c-2
-    enum-known-number
-    cast-result
-    mul-result
-    add-result
+    enum-known-refusal
+    packed-requires
     same-length
     returns
     same-length-2
