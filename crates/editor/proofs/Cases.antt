@@ -24,7 +24,7 @@ abbrev pub Table : String → (nodes rest : ℕ) → List ℕ → Type 0
 Table s nodes rest words = (R.nodeCount (read s) ≡ nodes) × (R.tableOf (nodeWords * 10) (read s) ≡ words ++ replicate rest 0)
 
 -- the content call on a span of a text, with an output of 8 bytes that hold 1
-abbrev pub call : String → (start stop : ℕ) → C.Answer
+abbrev pub call : String → (start stop : ℕ) → C.ContentAnswer
 call s start stop = C.contentCall presentEdition start stop (ascii s) (replicate 8 1)
 
 -- `[1, null]` in a text buffer of 16 bytes, with an empty journal of 20, where all other bytes hold 1: node 2 replaced by `12.5`

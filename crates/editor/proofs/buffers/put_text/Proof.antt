@@ -1,3 +1,5 @@
+-- made by tools/proof.py from answers/buffers/put_text (answers 6fb44a73ef5a, proof 89c9920588a7): edit that file, not this one
+use borrow.Author.Needs.{needs}
 use native.Mathlib.Omega.{arith}
 use mathlib.Core.Path.{ap, _∙_}
 use mathlib.Core.List.{List}
@@ -5,13 +7,8 @@ use Prim.Native.Nat.{ℕ, _-_}
 use lib.ListN.{length, replicate}
 use Rattle.editor.specs.Edit.{overwritten}
 use Rattle.editor.proofs.BufferLaws.{over-text}
-use borrow.Author.Needs.{needs}
 use Rattle.editor.proofs.buffers.put_text.Statement.{statement}
 use Rattle.editor.proofs.buffers.put_text.Tie as tie
-use Rattle.editor.proofs.buffers.put_text.Reads as reads
-use Rattle.editor.proofs.buffers.put_text.Lts as lts
-use Rattle.editor.proofs.buffers.put_at.Reads as put-at-reads
-use Rattle.editor.proofs.buffers.zero_out.Reads as zero-out-reads
 
 put-at-requires : tie.Need-put-at-requires
 put-at-requires c κs = search needs
@@ -23,7 +20,10 @@ same-length : tie.Need-same-length
 same-length c = omega arith
 
 returns : tie.Need-returns
-returns c = c .before .before .zero-out .ensures ∙ ap (overwritten (length (c .before .before .before .before .before .before .before .before .before .before .args .new .now)) (replicate (c .before .before .before .before .before .before .before .before .before .before .args .used - length (c .before .before .before .before .before .before .before .before .before .before .args .new .now)) 0)) (c .before .before .before .before .before .before .put-at .ensures) ∙ over-text (c .before .before .before .before .before .before .before .before .before .before .args .used) (c .before .before .before .before .before .before .before .before .before .before .args .new .now) (c .before .before .before .before .before .before .before .before .before .before .args .dst .now) (omega arith)
+returns c =
+    let the-args = c .before .before .before .before .before .before .before .before .before .before .args in
+    c .before .before .zero-out .ensures ∙ ap (overwritten (length (the-args .new .now)) (replicate (the-args .used - length (the-args .new .now)) 0)) (c .before .before .before .before .before .before .put-at .ensures) ∙ over-text (the-args .used) (the-args .new .now) (the-args .dst .now) (omega arith)
 
 pub put-text-spec : {M : Type 1} → statement M
-put-text-spec = tie.close (tie.spec put-at-requires zero-out-requires same-length returns)
+put-text-spec =
+    tie.close (tie.spec put-at-requires zero-out-requires same-length returns)

@@ -1,12 +1,9 @@
+-- made by tools/proof.py from answers/edit/correct (answers 3d6bac41199a, proof 34c4b23f4995): edit that file, not this one
+use borrow.Author.Needs.{needs}
 use native.Mathlib.Omega.{arith}
 use mathlib.Core.Path.{subst}
-use borrow.Author.Needs.{needs}
 use Rattle.editor.proofs.edit.correct.Statement.{statement}
 use Rattle.editor.proofs.edit.correct.Tie as tie
-use Rattle.editor.proofs.edit.correct.Reads as reads
-use Rattle.editor.proofs.edit.correct.Lts as lts
-use Rattle.editor.proofs.edit.correct_edition.Reads as correct-edition-reads
-use Rattle.text.proofs.switches.present.Reads as present-reads
 
 present-requires : tie.Need-present-requires
 present-requires c κs = search needs
@@ -28,11 +25,4 @@ returns c = rw (c .before .before .before .before .before .before .before .befor
 
 pub correct-spec : {M : Type 1} → statement M
 correct-spec =
-    tie.close
-    (tie.spec
-    present-requires
-    correct-edition-requires
-    same-length
-    same-length-2
-    same-length-3
-    returns)
+    tie.close (tie.spec present-requires correct-edition-requires same-length same-length-2 same-length-3 returns)

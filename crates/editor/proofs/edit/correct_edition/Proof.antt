@@ -1,16 +1,13 @@
+-- made by tools/proof.py from answers/edit/correct_edition (answers c4145e56f5f2, proof 1b049265c137): edit that file, not this one
+use borrow.Author.Needs.{needs}
 use native.Mathlib.Omega.{arith}
 use mathlib.Core.Path.{_≡_, refl, sym, ap, _∙_}
 use lib.ListN.{length}
 use Rattle.editor.specs.Edit.{lentOf, correctionRefusal, withCorrection, correct}
 use Rattle.editor.proofs.CallLaws.{opens-taken, opens-stopped, opened-shows}
 use Rattle.editor.proofs.CorrectLaws.{read-at, correct-stops}
-use borrow.Author.Needs.{needs}
 use Rattle.editor.proofs.edit.correct_edition.Statement.{statement}
 use Rattle.editor.proofs.edit.correct_edition.Tie as tie
-use Rattle.editor.proofs.edit.correct_edition.Reads as reads
-use Rattle.editor.proofs.edit.correct_edition.Lts as lts
-use Rattle.editor.proofs.edit.correct_read.Reads as correct-read-reads
-use Rattle.editor.proofs.edit.open_text.Reads as open-text-reads
 
 open-text-requires : tie.Need-open-text-requires
 open-text-requires c κs = search needs
@@ -22,7 +19,10 @@ enum-known-nodes : tie.Need-enum-known-nodes
 enum-known-nodes c = search needs
 
 correct-read-requires : tie.Need-correct-read-requires
-correct-read-requires c κs = read-at (c .before .before .before .before .before .before .before .before .before .before .before .before .before .before .before .before .args .sw) (length (c .before .before .before .before .before .before .before .before .before .before .before .before .before .before .before .before .args .table .now)) _ _ _ _ (c .before .before .before .before .before .before .before .before .open-text .kept .1 .1 .1 .1 .0) (opens-taken (c .before .before .before .before .before .before .before .before .before .before .before .before .before .before .before .before .args .sw) _ (c .before .before .before .before .nodes .given .1) (c .before .before .before .before .before .before .before .before .open-text .ensures))
+correct-read-requires c κs =
+    let the-args = c .before .before .before .before .before .before .before .before .before .before .before .before .before .before .before .before .args in
+    let the-open-text = c .before .before .before .before .before .before .before .before .open-text in
+    read-at (the-args .sw) (length (the-args .table .now)) _ _ _ _ (the-open-text .kept .1 .1 .1 .1 .0) (opens-taken (the-args .sw) _ (c .before .before .before .before .nodes .given .1) (the-open-text .ensures))
 
 same-length : tie.Need-same-length
 same-length c = omega arith
@@ -34,8 +34,10 @@ same-length-3 : tie.Need-same-length-3
 same-length-3 c = omega arith
 
 returns : tie.Need-returns
-returns c = correct-stops (c .before .before .before .before .before .before .before .before .before .before .before .before .before .args .sw) (length (c .before .before .before .before .before .before .before .before .before .before .before .before .before .args .table .now)) (lentOf (c .before .before .before .before .before .before .before .before .before .before .before .before .before .args .text .now) (c .before .before .before .before .before .before .before .before .before .before .before .before .before .args .journal .now) (c .before .before .before .before .before .before .before .before .before .before .before .before .before .args .used)) (c .before .before .before .before .before .before .before .before .before .before .before .before .before .args .node) (c .before .before .before .before .before .before .before .before .before .before .before .before .before .args .replacement .now) _ _
-    (opens-stopped (c .before .before .before .before .before .before .before .before .before .before .before .before .before .args .sw) _ (c .before .refusal .given .1) (c .before .before .before .before .before .open-text .ensures))
+returns c =
+    let the-args = c .before .before .before .before .before .before .before .before .before .before .before .before .before .args in
+    correct-stops (the-args .sw) (length (the-args .table .now)) (lentOf (the-args .text .now) (the-args .journal .now) (the-args .used)) (the-args .node) (the-args .replacement .now) _ _
+    (opens-stopped (the-args .sw) _ (c .before .refusal .given .1) (c .before .before .before .before .before .open-text .ensures))
 
 same-length-4 : tie.Need-same-length-4
 same-length-4 c = omega arith
@@ -48,23 +50,14 @@ same-length-6 c = omega arith
 
 returns-2 : tie.Need-returns-2
 unfolding correct
-returns-2 c = let b = (lentOf (c .before .before .before .before .before .before .before .before .before .before .before .before .before .before .before .before .before .before .before .before .before .before .before .args .text .now) (c .before .before .before .before .before .before .before .before .before .before .before .before .before .before .before .before .before .before .before .before .before .before .before .args .journal .now) (c .before .before .before .before .before .before .before .before .before .before .before .before .before .before .before .before .before .before .before .before .before .before .before .args .used)) in
-    opened-shows (c .before .before .before .before .before .before .before .before .before .before .before .before .before .before .before .before .before .before .before .before .before .before .before .args .sw) (length (c .before .before .before .before .before .before .before .before .before .before .before .before .before .before .before .before .before .before .before .before .before .before .before .args .table .now)) b (λ w. correctionRefusal (c .before .before .before .before .before .before .before .before .before .before .before .before .before .before .before .before .before .before .before .before .before .before .before .args .sw) w b (c .before .before .before .before .before .before .before .before .before .before .before .before .before .before .before .before .before .before .before .before .before .before .before .args .node) (c .before .before .before .before .before .before .before .before .before .before .before .before .before .before .before .before .before .before .before .before .before .before .before .args .replacement .now)) (λ w. withCorrection (c .before .before .before .before .before .before .before .before .before .before .before .before .before .before .before .before .before .before .before .before .before .before .before .args .sw) w b (c .before .before .before .before .before .before .before .before .before .before .before .before .before .before .before .before .before .before .before .before .before .before .before .args .node) (c .before .before .before .before .before .before .before .before .before .before .before .before .before .before .before .before .before .before .before .before .before .before .before .args .replacement .now)) _ _ _ _ _ _ _
-    (opens-taken (c .before .before .before .before .before .before .before .before .before .before .before .before .before .before .before .before .before .before .before .before .before .before .before .args .sw) _ (c .before .before .before .before .before .before .before .before .before .before .before .nodes .given .1) (c .before .before .before .before .before .before .before .before .before .before .before .before .before .before .before .open-text .ensures)) (c .before .before .before .before .before .before .before .before .before .before .before .before .before .before .before .open-text .kept .1 .1 .1 .1 .0) (c .before .before .before .before .before .before .correct-read .ensures)
+returns-2 c =
+    let the-args = c .before .before .before .before .before .before .before .before .before .before .before .before .before .before .before .before .before .before .before .before .before .before .before .args in
+    let the-open-text = c .before .before .before .before .before .before .before .before .before .before .before .before .before .before .before .open-text in
+    let b = (lentOf (the-args .text .now) (the-args .journal .now) (the-args .used)) in
+    opened-shows (the-args .sw) (length (the-args .table .now)) b (λ w. correctionRefusal (the-args .sw) w b (the-args .node) (the-args .replacement .now)) (λ w. withCorrection (the-args .sw) w b (the-args .node) (the-args .replacement .now)) _ _ _ _ _ _ _
+    (opens-taken (the-args .sw) _ (c .before .before .before .before .before .before .before .before .before .before .before .nodes .given .1) (the-open-text .ensures)) (the-open-text .kept .1 .1 .1 .1 .0) (c .before .before .before .before .before .before .correct-read .ensures)
 
 pub correct-edition-spec : {M : Type 1} → statement M
 correct-edition-spec =
-    tie.close
-    (tie.spec
-    open-text-requires
-    enum-known-refusal
-    enum-known-nodes
-    correct-read-requires
-    same-length
-    same-length-2
-    same-length-3
-    returns
-    same-length-4
-    same-length-5
-    same-length-6
-    returns-2)
+    tie.close (tie.spec open-text-requires enum-known-refusal enum-known-nodes correct-read-requires same-length
+    same-length-2 same-length-3 returns same-length-4 same-length-5 same-length-6 returns-2)

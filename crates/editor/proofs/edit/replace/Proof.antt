@@ -1,3 +1,5 @@
+-- made by tools/proof.py from answers/edit/replace (answers f8c5e6f54afa, proof c7fa943d3332): edit that file, not this one
+use borrow.Author.Needs.{needs}
 use native.Mathlib.Omega.{arith}
 use mathlib.Core.Path.{_≡_, refl, sym, ap, _∙_}
 use Prim.Native.Nat.{ℕ, _+_, _-_, _≤_, min}
@@ -7,29 +9,29 @@ use Rattle.editor.specs.Edit.{trailerBytes}
 use Rattle.editor.proofs.SpliceLaws.{length-part}
 use Rattle.editor.proofs.TrialLaws.{judged-room}
 use Rattle.editor.proofs.CorrectLaws.{text-short, replace-refused, replace-done}
-use borrow.Author.Needs.{needs}
 use Rattle.editor.proofs.edit.replace.Statement.{statement}
 use Rattle.editor.proofs.edit.replace.Tie as tie
-use Rattle.editor.proofs.edit.replace.Reads as reads
-use Rattle.editor.proofs.edit.replace.Lts as lts
-use Rattle.editor.proofs.buffers.put_text.Reads as put-text-reads
-use Rattle.editor.proofs.journal.put_entry.Reads as put-entry-reads
-use Rattle.editor.proofs.trial.try_change.Reads as try-change-reads
 
 sub-end : tie.Need-sub-end
 sub-end c = omega arith
 
 add-end : tie.Need-add-end
-add-end c = let f = c .before .before .before .before .pre .0 .journal-fits in let e = c .before .before .before .before .pre .1 .ends in let t = text-short (c .before .before .before .before .args .present) _ _ _ (c .before .before .before .before .pre .0) in omega arith
+add-end c =
+    let the-pre = c .before .before .before .before .pre in
+    let f = the-pre .0 .journal-fits in let e = the-pre .1 .ends in let t = text-short (c .before .before .before .before .args .present) _ _ _ (the-pre .0) in omega arith
 
 add-end-2 : tie.Need-add-end-2
-add-end-2 c = let f = c .before .before .before .before .pre .0 .journal-fits in let e = c .before .before .before .before .pre .1 .ends in let t = text-short (c .before .before .before .before .args .present) _ _ _ (c .before .before .before .before .pre .0) in omega arith
+add-end-2 c =
+    let the-pre = c .before .before .before .before .pre in
+    let f = the-pre .0 .journal-fits in let e = the-pre .1 .ends in let t = text-short (c .before .before .before .before .args .present) _ _ _ (the-pre .0) in omega arith
 
 slice-aggregate-try-change : tie.Need-slice-aggregate-try-change
 slice-aggregate-try-change c = omega arith
 
 try-change-requires : tie.Need-try-change-requires
-try-change-requires c κs = (c .before .before .before .before .before .before .before .before .pre .0, (c .before .before .before .before .before .before .before .before .pre .1, let z = length-replicate {A = ℕ} 65536 0 in omega arith))
+try-change-requires c κs =
+    let the-pre = c .before .before .before .before .before .before .before .before .pre in
+    (the-pre .0, (the-pre .1, let z = length-replicate {A = ℕ} 65536 0 in omega arith))
 
 enum-told : tie.Need-enum-told
 enum-told c = search needs
@@ -47,8 +49,10 @@ part-put-entry-end : tie.Need-part-put-entry-end
 part-put-entry-end c = omega arith
 
 put-entry-requires : tie.Need-put-entry-requires
-put-entry-requires c κs = let m = judged-room _ _ _ _ _ _ _ _ (c .before .before .before .before .before .before .before .before .try-change .ensures) (c .before .before .before .enum-told2 .given .1) in
-    let l = length-part (c .before .before .before .before .before .before .before .before .before .before .before .before .before .before .before .before .before .args .span .start) (c .before .before .before .before .before .before .before .before .before .before .before .before .before .before .before .before .before .args .span .stop) (c .before .before .before .before .before .before .before .before .before .before .before .before .before .before .before .before .before .args .text .now) (c .before .before .before .before .before .before .before .before .before .before .before .before .before .before .before .before .before .pre .1 .forwards) (omega arith) in omega arith
+put-entry-requires c κs =
+    let the-args = c .before .before .before .before .before .before .before .before .before .before .before .before .before .before .before .before .before .args in
+    let m = judged-room _ _ _ _ _ _ _ _ (c .before .before .before .before .before .before .before .before .try-change .ensures) (c .before .before .before .enum-told2 .given .1) in
+    let l = length-part (the-args .span .start) (the-args .span .stop) (the-args .text .now) (c .before .before .before .before .before .before .before .before .before .before .before .before .before .before .before .before .before .pre .1 .forwards) (omega arith) in omega arith
 
 array-share-prefix-draft : tie.Need-array-share-prefix-draft
 array-share-prefix-draft c = let m = judged-room _ _ _ _ _ _ _ _ (c .before .before .before .before .before .before .before .before .before .before .before .before .try-change .ensures) (c .before .before .before .before .before .before .before .enum-told2 .given .1) in omega arith
@@ -70,7 +74,10 @@ same-length-3 : tie.Need-same-length-3
 same-length-3 c = omega arith
 
 returns : tie.Need-returns
-returns c = replace-refused (c .before .before .before .before .before .before .before .before .before .before .before .before .before .before .args .present) (c .before .before .before .before .before .before .before .before .before .before .before .before .before .before .args .text .now) (c .before .before .before .before .before .before .before .before .before .before .before .before .before .before .args .journal .now) _ (c .before .before .before .before .before .before .before .before .before .before .before .before .before .before .args .span) (c .before .before .before .before .before .before .before .before .before .before .before .before .before .before .args .replacement .now) (c .before .before .before .before .before .before .before .before .before .before .before .before .before .before .pre .0 .text-fits) (c .before .before .before .before .before .before .before .before .before .before .before .before .before .before .pre .1) _ _ _ (c .before .before .before .before .before .try-change .ensures) _ (c .enum-told .given .1)
+returns c =
+    let the-args = c .before .before .before .before .before .before .before .before .before .before .before .before .before .before .args in
+    let the-pre = c .before .before .before .before .before .before .before .before .before .before .before .before .before .before .pre in
+    replace-refused (the-args .present) (the-args .text .now) (the-args .journal .now) _ (the-args .span) (the-args .replacement .now) (the-pre .0 .text-fits) (the-pre .1) _ _ _ (c .before .before .before .before .before .try-change .ensures) _ (c .enum-told .given .1)
 
 same-length-4 : tie.Need-same-length-4
 same-length-4 c = omega arith
@@ -82,32 +89,15 @@ same-length-6 : tie.Need-same-length-6
 same-length-6 c = omega arith
 
 returns-2 : tie.Need-returns-2
-returns-2 c = replace-done (c .before .before .before .before .before .before .before .before .before .before .before .before .before .before .before .before .before .before .before .before .before .before .before .before .before .args .present) (c .before .before .before .before .before .before .before .before .before .before .before .before .before .before .before .before .before .before .before .before .before .before .before .before .before .args .text .now) (c .before .before .before .before .before .before .before .before .before .before .before .before .before .before .before .before .before .before .before .before .before .before .before .before .before .args .journal .now) _ (c .before .before .before .before .before .before .before .before .before .before .before .before .before .before .before .before .before .before .before .before .before .before .before .before .before .args .span) (c .before .before .before .before .before .before .before .before .before .before .before .before .before .before .before .before .before .before .before .before .before .before .before .before .before .args .replacement .now) (c .before .before .before .before .before .before .before .before .before .before .before .before .before .before .before .before .before .before .before .before .before .before .before .before .before .pre .0 .text-fits) (c .before .before .before .before .before .before .before .before .before .before .before .before .before .before .before .before .before .before .before .before .before .before .before .before .before .pre .1) _ _ _ (c .before .before .before .before .before .before .before .before .before .before .before .before .before .before .before .before .try-change .ensures) _ _ _ (c .before .before .before .before .before .before .before .before .before .before .before .enum-told2 .given .1)
+returns-2 c =
+    let the-args = c .before .before .before .before .before .before .before .before .before .before .before .before .before .before .before .before .before .before .before .before .before .before .before .before .before .args in
+    let the-pre = c .before .before .before .before .before .before .before .before .before .before .before .before .before .before .before .before .before .before .before .before .before .before .before .before .before .pre in
+    replace-done (the-args .present) (the-args .text .now) (the-args .journal .now) _ (the-args .span) (the-args .replacement .now) (the-pre .0 .text-fits) (the-pre .1) _ _ _ (c .before .before .before .before .before .before .before .before .before .before .before .before .before .before .before .before .try-change .ensures) _ _ _ (c .before .before .before .before .before .before .before .before .before .before .before .enum-told2 .given .1)
     (c .before .before .put-text .ensures) refl (c .before .before .before .before .before .before .before .put-entry .ensures)
 
 pub replace-spec : {M : Type 1} → statement M
 replace-spec =
-    tie.close
-    (tie.spec
-    sub-end
-    add-end
-    add-end-2
-    slice-aggregate-try-change
-    try-change-requires
-    enum-told
-    enum-told-2
-    sub-put-entry
-    part-put-entry-start
-    part-put-entry-end
-    put-entry-requires
-    array-share-prefix-draft
-    slice-aggregate-put-text
-    put-text-requires
-    same-length
-    same-length-2
-    same-length-3
-    returns
-    same-length-4
-    same-length-5
-    same-length-6
-    returns-2)
+    tie.close (tie.spec sub-end add-end add-end-2 slice-aggregate-try-change try-change-requires enum-told enum-told-2
+    sub-put-entry part-put-entry-start part-put-entry-end put-entry-requires array-share-prefix-draft
+    slice-aggregate-put-text put-text-requires same-length same-length-2 same-length-3 returns same-length-4
+    same-length-5 same-length-6 returns-2)

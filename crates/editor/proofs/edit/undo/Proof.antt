@@ -1,12 +1,9 @@
+-- made by tools/proof.py from answers/edit/undo (answers a4e25b31c687, proof 4ad259fd84e8): edit that file, not this one
+use borrow.Author.Needs.{needs}
 use native.Mathlib.Omega.{arith}
 use mathlib.Core.Path.{subst}
-use borrow.Author.Needs.{needs}
 use Rattle.editor.proofs.edit.undo.Statement.{statement}
 use Rattle.editor.proofs.edit.undo.Tie as tie
-use Rattle.editor.proofs.edit.undo.Reads as reads
-use Rattle.editor.proofs.edit.undo.Lts as lts
-use Rattle.editor.proofs.edit.undo_edition.Reads as undo-edition-reads
-use Rattle.text.proofs.switches.present.Reads as present-reads
 
 present-requires : tie.Need-present-requires
 present-requires c κs = search needs

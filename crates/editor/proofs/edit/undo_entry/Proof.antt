@@ -1,3 +1,5 @@
+-- made by tools/proof.py from answers/edit/undo_entry (answers a3c86d831a0d, proof b8ad116a1977): edit that file, not this one
+use borrow.Author.Needs.{needs}
 use native.Mathlib.Omega.{arith}
 use mathlib.Core.Path.{_≡_, refl, sym, ap, _∙_}
 use Prim.Native.Nat.{ℕ, _+_, _-_, _≤_, min}
@@ -5,13 +7,8 @@ use lib.ListN.{length, length-replicate}
 use lib.Seq.{length-take-le}
 use Rattle.editor.proofs.TrialLaws.{judged-room}
 use Rattle.editor.proofs.UndoCallLaws.{undo-within, undo-refused, undo-done}
-use borrow.Author.Needs.{needs}
 use Rattle.editor.proofs.edit.undo_entry.Statement.{statement}
 use Rattle.editor.proofs.edit.undo_entry.Tie as tie
-use Rattle.editor.proofs.edit.undo_entry.Reads as reads
-use Rattle.editor.proofs.edit.undo_entry.Lts as lts
-use Rattle.editor.proofs.buffers.put_text.Reads as put-text-reads
-use Rattle.editor.proofs.trial.try_change.Reads as try-change-reads
 
 sub-end : tie.Need-sub-end
 sub-end c = omega arith
@@ -32,7 +29,10 @@ slice-aggregate-try-change : tie.Need-slice-aggregate-try-change
 slice-aggregate-try-change c = omega arith
 
 try-change-requires : tie.Need-try-change-requires
-try-change-requires c κs = (c .before .before .before .before .before .before .before .before .before .pre .0, (undo-within (c .before .before .before .before .before .before .before .before .before .args .present) (c .before .before .before .before .before .before .before .before .before .args .text .now) (c .before .before .before .before .before .before .before .before .before .args .journal .now) 0 (c .before .before .before .before .before .before .before .before .before .pre .0 .text-fits) (c .before .before .before .before .before .before .before .before .before .pre .0 .journal-fits) _ (c .before .before .before .before .before .before .before .before .before .pre .1), let z = length-replicate {A = ℕ} 65536 0 in omega arith))
+try-change-requires c κs =
+    let the-pre = c .before .before .before .before .before .before .before .before .before .pre in
+    let the-args = c .before .before .before .before .before .before .before .before .before .args in
+    (the-pre .0, (undo-within (the-args .present) (the-args .text .now) (the-args .journal .now) 0 (the-pre .0 .text-fits) (the-pre .0 .journal-fits) _ (the-pre .1), let z = length-replicate {A = ℕ} 65536 0 in omega arith))
 
 enum-told : tie.Need-enum-told
 enum-told c = search needs
@@ -57,7 +57,10 @@ same-length-2 : tie.Need-same-length-2
 same-length-2 c = omega arith
 
 returns : tie.Need-returns
-returns c = undo-refused (c .before .before .before .before .before .before .before .before .before .before .before .before .before .before .before .args .present) (c .before .before .before .before .before .before .before .before .before .before .before .before .before .before .before .args .text .now) (c .before .before .before .before .before .before .before .before .before .before .before .before .before .before .before .args .journal .now) _ (c .before .before .before .before .before .before .before .before .before .before .before .before .before .before .before .pre .0 .text-fits) (c .before .before .before .before .before .before .before .before .before .before .before .before .before .before .before .pre .0 .journal-fits) (c .before .before .before .before .before .before .before .before .before .before .before .before .before .before .before .args .trailer) (c .before .before .before .before .before .before .before .before .before .before .before .before .before .before .before .pre .1) _ _ _ (c .before .before .before .before .before .try-change .ensures) _ (c .enum-told .given .1)
+returns c =
+    let the-args = c .before .before .before .before .before .before .before .before .before .before .before .before .before .before .before .args in
+    let the-pre = c .before .before .before .before .before .before .before .before .before .before .before .before .before .before .before .pre in
+    undo-refused (the-args .present) (the-args .text .now) (the-args .journal .now) _ (the-pre .0 .text-fits) (the-pre .0 .journal-fits) (the-args .trailer) (the-pre .1) _ _ _ (c .before .before .before .before .before .try-change .ensures) _ (c .enum-told .given .1)
 
 same-length-3 : tie.Need-same-length-3
 same-length-3 c = omega arith
@@ -66,27 +69,13 @@ same-length-4 : tie.Need-same-length-4
 same-length-4 c = omega arith
 
 returns-2 : tie.Need-returns-2
-returns-2 c = undo-done (c .before .before .before .before .before .before .before .before .before .before .before .before .before .before .before .before .before .before .before .before .args .present) (c .before .before .before .before .before .before .before .before .before .before .before .before .before .before .before .before .before .before .before .before .args .text .now) (c .before .before .before .before .before .before .before .before .before .before .before .before .before .before .before .before .before .before .before .before .args .journal .now) _ (c .before .before .before .before .before .before .before .before .before .before .before .before .before .before .before .before .before .before .before .before .pre .0 .text-fits) (c .before .before .before .before .before .before .before .before .before .before .before .before .before .before .before .before .before .before .before .before .pre .0 .journal-fits) (c .before .before .before .before .before .before .before .before .before .before .before .before .before .before .before .before .before .before .before .before .args .trailer) (c .before .before .before .before .before .before .before .before .before .before .before .before .before .before .before .before .before .before .before .before .pre .1) _ _ _ (c .before .before .before .before .before .before .before .before .before .before .try-change .ensures) _ (c .before .before .before .before .before .enum-told2 .given .1) (c .before .before .put-text .ensures)
+returns-2 c =
+    let the-args = c .before .before .before .before .before .before .before .before .before .before .before .before .before .before .before .before .before .before .before .before .args in
+    let the-pre = c .before .before .before .before .before .before .before .before .before .before .before .before .before .before .before .before .before .before .before .before .pre in
+    undo-done (the-args .present) (the-args .text .now) (the-args .journal .now) _ (the-pre .0 .text-fits) (the-pre .0 .journal-fits) (the-args .trailer) (the-pre .1) _ _ _ (c .before .before .before .before .before .before .before .before .before .before .try-change .ensures) _ (c .before .before .before .before .before .enum-told2 .given .1) (c .before .before .put-text .ensures)
 
 pub undo-entry-spec : {M : Type 1} → statement M
 undo-entry-spec =
-    tie.close
-    (tie.spec
-    sub-end
-    sub-try-change
-    sub-try-change-2
-    part-try-change-start
-    part-try-change-end
-    slice-aggregate-try-change
-    try-change-requires
-    enum-told
-    enum-told-2
-    array-share-prefix-draft
-    slice-aggregate-put-text
-    put-text-requires
-    same-length
-    same-length-2
-    returns
-    same-length-3
-    same-length-4
-    returns-2)
+    tie.close (tie.spec sub-end sub-try-change sub-try-change-2 part-try-change-start part-try-change-end
+    slice-aggregate-try-change try-change-requires enum-told enum-told-2 array-share-prefix-draft
+    slice-aggregate-put-text put-text-requires same-length same-length-2 returns same-length-3 same-length-4 returns-2)

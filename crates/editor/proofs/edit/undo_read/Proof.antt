@@ -1,17 +1,13 @@
+-- made by tools/proof.py from answers/edit/undo_read (answers de98254df11c, proof 790841a8b10a): edit that file, not this one
+use borrow.Author.Needs.{needs}
 use native.Mathlib.Omega.{arith}
 use mathlib.Core.Path.{_≡_, refl, sym, ap, _∙_}
 use lib.Seq.{length-take-le}
 use Rattle.editor.specs.Edit.{lentOf, textOf, journalOf}
 use Rattle.editor.proofs.CallLaws.{shows-refused}
 use Rattle.editor.proofs.UndoCallLaws.{refused-17, refused-18, trailer-is}
-use borrow.Author.Needs.{needs}
 use Rattle.editor.proofs.edit.undo_read.Statement.{statement}
 use Rattle.editor.proofs.edit.undo_read.Tie as tie
-use Rattle.editor.proofs.edit.undo_read.Reads as reads
-use Rattle.editor.proofs.edit.undo_read.Lts as lts
-use Rattle.editor.proofs.edit.undo_entry.Reads as undo-entry-reads
-use Rattle.editor.proofs.journal.last_entry.Reads as last-entry-reads
-use Rattle.editor.proofs.trial.refused.Reads as refused-reads
 
 slice-aggregate-last-entry : tie.Need-slice-aggregate-last-entry
 slice-aggregate-last-entry c = sym (length-take-le _ _ (omega arith))
@@ -42,25 +38,34 @@ enum-known-trailer c = search needs
 
 undo-entry-requires : tie.Need-undo-entry-requires
 unfolding textOf journalOf
-undo-entry-requires c κs = (c .before .before .before .before .before .before .before .before .before .before .before .pre, trailer-is (c .before .before .before .before .before .before .before .before .before .before .before .args .present) (c .before .before .before .before .before .before .before .before .before .before .before .args .text .now) (c .before .before .before .before .before .before .before .before .before .before .before .args .journal .now) 0 (c .before .before .before .before .before .before .before .before .before .before .before .pre .text-fits) (c .before .before .before .before .before .before .before .before .before .before .before .pre .journal-fits) _ (sym (c .before .before .before .before .before .last-entry .ensures) ∙ c .before .before .before .trailer .given .1))
+undo-entry-requires c κs =
+    let the-pre = c .before .before .before .before .before .before .before .before .before .before .before .pre in
+    let the-args = c .before .before .before .before .before .before .before .before .before .before .before .args in
+    (the-pre, trailer-is (the-args .present) (the-args .text .now) (the-args .journal .now) 0 (the-pre .text-fits) (the-pre .journal-fits) _ (sym (c .before .before .before .before .before .last-entry .ensures) ∙ c .before .before .before .trailer .given .1))
 
 same-length : tie.Need-same-length
 same-length c = omega arith
 
 returns : tie.Need-returns
 unfolding textOf journalOf
-returns c = shows-refused (c .before .before .before .before .before .before .before .before .before .args .present .sw) _ (lentOf (c .before .before .before .before .before .before .before .before .before .args .text .now) (c .before .before .before .before .before .before .before .before .before .args .journal .now) (c .before .before .before .before .before .before .before .before .before .args .present .used)) _ _ _ _ _ 17
-    (refused-17 (c .before .before .before .before .before .before .before .before .before .args .present) (c .before .before .before .before .before .before .before .before .before .args .text .now) (c .before .before .before .before .before .before .before .before .before .args .journal .now) _ (c .before .before .before .before .before .before .before .before .before .pre .text-fits) (c .before .before .before .before .before .before .before .before .before .pre .journal-fits) (sym (c .before .before .before .last-entry .ensures) ∙ c .before .enum-told .given .1))
-    (omega arith) (c .refused .ensures) (c .before .before .before .before .before .before .before .before .before .pre .table-now)
+returns c =
+    let the-args = c .before .before .before .before .before .before .before .before .before .args in
+    let the-pre = c .before .before .before .before .before .before .before .before .before .pre in
+    shows-refused (the-args .present .sw) _ (lentOf (the-args .text .now) (the-args .journal .now) (the-args .present .used)) _ _ _ _ _ 17
+    (refused-17 (the-args .present) (the-args .text .now) (the-args .journal .now) _ (the-pre .text-fits) (the-pre .journal-fits) (sym (c .before .before .before .last-entry .ensures) ∙ c .before .enum-told .given .1))
+    (omega arith) (c .refused .ensures) (the-pre .table-now)
 
 same-length-2 : tie.Need-same-length-2
 same-length-2 c = omega arith
 
 returns-2 : tie.Need-returns-2
 unfolding textOf journalOf
-returns-2 c = shows-refused (c .before .before .before .before .before .before .before .before .before .args .present .sw) _ (lentOf (c .before .before .before .before .before .before .before .before .before .args .text .now) (c .before .before .before .before .before .before .before .before .before .args .journal .now) (c .before .before .before .before .before .before .before .before .before .args .present .used)) _ _ _ _ _ 18
-    (refused-18 (c .before .before .before .before .before .before .before .before .before .args .present) (c .before .before .before .before .before .before .before .before .before .args .text .now) (c .before .before .before .before .before .before .before .before .before .args .journal .now) _ (c .before .before .before .before .before .before .before .before .before .pre .text-fits) (c .before .before .before .before .before .before .before .before .before .pre .journal-fits) (sym (c .before .before .before .last-entry .ensures) ∙ c .before .enum-told2 .given .1))
-    (omega arith) (c .refused2 .ensures) (c .before .before .before .before .before .before .before .before .before .pre .table-now)
+returns-2 c =
+    let the-args = c .before .before .before .before .before .before .before .before .before .args in
+    let the-pre = c .before .before .before .before .before .before .before .before .before .pre in
+    shows-refused (the-args .present .sw) _ (lentOf (the-args .text .now) (the-args .journal .now) (the-args .present .used)) _ _ _ _ _ 18
+    (refused-18 (the-args .present) (the-args .text .now) (the-args .journal .now) _ (the-pre .text-fits) (the-pre .journal-fits) (sym (c .before .before .before .last-entry .ensures) ∙ c .before .enum-told2 .given .1))
+    (omega arith) (c .refused2 .ensures) (the-pre .table-now)
 
 same-length-3 : tie.Need-same-length-3
 same-length-3 c = omega arith
@@ -74,22 +79,6 @@ returns-3 c = c .before .before .before .before .undo-entry .ensures
 
 pub undo-read-spec : {M : Type 1} → statement M
 undo-read-spec =
-    tie.close
-    (tie.spec
-    slice-aggregate-last-entry
-    slice-reshare-prefix-last-entry
-    slice-aggregate-last-entry-2
-    last-entry-requires
-    enum-told
-    refused-requires
-    enum-told-2
-    refused-requires-2
-    enum-known-trailer
-    undo-entry-requires
-    same-length
-    returns
-    same-length-2
-    returns-2
-    same-length-3
-    same-length-4
-    returns-3)
+    tie.close (tie.spec slice-aggregate-last-entry slice-reshare-prefix-last-entry slice-aggregate-last-entry-2
+    last-entry-requires enum-told refused-requires enum-told-2 refused-requires-2 enum-known-trailer undo-entry-requires
+    same-length returns same-length-2 returns-2 same-length-3 same-length-4 returns-3)

@@ -1,13 +1,11 @@
+-- made by tools/proof.py from answers/journal/number_at (answers 0026358013bb, proof 9ac843d03402): edit that file, not this one
+use borrow.Author.Needs.{needs}
 use native.Mathlib.Omega.{arith}
 use mathlib.Core.Path.{_∙_}
 use Prim.Native.Nat.{_+_, _*_}
 use Rattle.editor.proofs.JournalLaws.{number-read}
-use borrow.Author.Needs.{needs}
 use Rattle.editor.proofs.journal.number_at.Statement.{statement}
 use Rattle.editor.proofs.journal.number_at.Tie as tie
-use Rattle.editor.proofs.journal.number_at.Reads as reads
-use Rattle.editor.proofs.journal.number_at.Lts as lts
-use Rattle.editor.proofs.journal.wide.Reads as wide-reads
 
 shared-slice-read-wide : tie.Need-shared-slice-read-wide
 shared-slice-read-wide c = search needs
@@ -61,30 +59,14 @@ add-result-3 : tie.Need-add-result-3
 add-result-3 c = omega arith
 
 returns : tie.Need-returns
-returns c = (
-  (λ i. c .before .before .before .before .before .before .wide .ensures .0 i + c .before .before .before .before .wide2 .ensures .0 i * 256 + c .before .before .wide3 .ensures .0 i * 65536 + c .wide4 .ensures .0 i * 16777216) ∙ number-read (c .before .before .before .before .before .before .before .before .before .args .s .now) (c .before .before .before .before .before .before .before .before .before .args .at),
-  omega arith,
-)
+returns c =
+    let the-args = c .before .before .before .before .before .before .before .before .before .args in (
+      (λ i. c .before .before .before .before .before .before .wide .ensures .0 i + c .before .before .before .before .wide2 .ensures .0 i * 256 + c .before .before .wide3 .ensures .0 i * 65536 + c .wide4 .ensures .0 i * 16777216) ∙ number-read (the-args .s .now) (the-args .at),
+      omega arith,
+    )
 
 pub number-at-spec : {M : Type 1} → statement M
 number-at-spec =
-    tie.close
-    (tie.spec
-    shared-slice-read-wide
-    wide-requires
-    add-wide
-    shared-slice-read-wide-2
-    wide-requires-2
-    mul-result
-    add-result
-    add-wide-2
-    shared-slice-read-wide-3
-    wide-requires-3
-    mul-result-2
-    add-result-2
-    add-wide-3
-    shared-slice-read-wide-4
-    wide-requires-4
-    mul-result-3
-    add-result-3
-    returns)
+    tie.close (tie.spec shared-slice-read-wide wide-requires add-wide shared-slice-read-wide-2 wide-requires-2
+    mul-result add-result add-wide-2 shared-slice-read-wide-3 wide-requires-3 mul-result-2 add-result-2 add-wide-3
+    shared-slice-read-wide-4 wide-requires-4 mul-result-3 add-result-3 returns)

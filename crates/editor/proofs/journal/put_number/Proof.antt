@@ -1,11 +1,9 @@
+-- made by tools/proof.py from answers/journal/put_number (answers 8dd3f3335ffd, proof a8d61b86a729): edit that file, not this one
 use native.Mathlib.Omega.{arith}
 use lib.ListN.{length-set}
 use Rattle.editor.proofs.JournalLaws.{number-put}
-use borrow.Author.Needs.{needs}
 use Rattle.editor.proofs.journal.put_number.Statement.{statement}
 use Rattle.editor.proofs.journal.put_number.Tie as tie
-use Rattle.editor.proofs.journal.put_number.Reads as reads
-use Rattle.editor.proofs.journal.put_number.Lts as lts
 
 cast-dst : tie.Need-cast-dst
 cast-dst c = omega arith
@@ -48,18 +46,5 @@ returns c = number-put (c .args .dst .now) (c .args .at) (c .args .n) (omega ari
 
 pub put-number-spec : {M : Type 1} → statement M
 put-number-spec =
-    tie.close
-    (tie.spec
-    cast-dst
-    slice-write-dst
-    cast-dst-2
-    add-dst
-    slice-write-dst-2
-    cast-dst-3
-    add-dst-2
-    slice-write-dst-3
-    cast-dst-4
-    add-dst-3
-    slice-write-dst-4
-    same-length
-    returns)
+    tie.close (tie.spec cast-dst slice-write-dst cast-dst-2 add-dst slice-write-dst-2 cast-dst-3 add-dst-2
+    slice-write-dst-3 cast-dst-4 add-dst-3 slice-write-dst-4 same-length returns)

@@ -1,3 +1,5 @@
+-- made by tools/proof.py from answers/trial/try_change (answers 407fc07ac11a, proof c8f2bae5e55c): edit that file, not this one
+use borrow.Author.Needs.{needs}
 use native.Mathlib.Omega.{arith}
 use mathlib.Core.Path.{_≡_, refl, sym, ap, _∙_}
 use Prim.Native.Nat.{ℕ, _+_, _-_, _≤_, min}
@@ -5,15 +7,8 @@ use lib.ListN.{length}
 use lib.Seq.{length-take-le}
 use Rattle.editor.specs.Edit.{textOf}
 use Rattle.editor.proofs.TrialLaws.{try-14, try-15, try-16, try-done}
-use borrow.Author.Needs.{needs}
 use Rattle.editor.proofs.trial.try_change.Statement.{statement}
 use Rattle.editor.proofs.trial.try_change.Tie as tie
-use Rattle.editor.proofs.trial.try_change.Reads as reads
-use Rattle.editor.proofs.trial.try_change.Lts as lts
-use Rattle.editor.proofs.buffers.put_splice.Reads as put-splice-reads
-use Rattle.editor.proofs.trial.lesser.Reads as lesser-reads
-use Rattle.editor.proofs.trial.refused.Reads as refused-reads
-use Rattle.reader.proofs.read.read_edition.Reads as read-edition-reads
 
 add-new : tie.Need-add-new
 add-new c = omega arith
@@ -31,20 +26,29 @@ refused-requires : tie.Need-refused-requires
 refused-requires c κs = search needs
 
 returns : tie.Need-returns
-returns c = try-14 (c .before .before .before .before .before .before .before .before .before .before .before .before .args .present) (c .before .before .before .before .before .before .before .before .before .before .before .before .args .plan) _ _ _ _ _ (c .before .before .before .before .before .before .before .before .before .before .before .before .pre .0) (c .before .before .before .before .before .before .before .before .before .before .before .before .pre .1 .0) _ _ _ (omega arith) (c .refused .ensures) refl
+returns c =
+    let the-args = c .before .before .before .before .before .before .before .before .before .before .before .before .args in
+    let the-pre = c .before .before .before .before .before .before .before .before .before .before .before .before .pre in
+    try-14 (the-args .present) (the-args .plan) _ _ _ _ _ (the-pre .0) (the-pre .1 .0) _ _ _ (omega arith) (c .refused .ensures) refl
 
 refused-requires-2 : tie.Need-refused-requires-2
 refused-requires-2 c κs = search needs
 
 returns-2 : tie.Need-returns-2
-returns-2 c = try-15 (c .before .before .before .before .before .before .before .before .before .before .before .before .before .before .args .present) (c .before .before .before .before .before .before .before .before .before .before .before .before .before .before .args .plan) _ _ _ _ _ (c .before .before .before .before .before .before .before .before .before .before .before .before .before .before .pre .0) (c .before .before .before .before .before .before .before .before .before .before .before .before .before .before .pre .1 .0) _ _ _ (omega arith) (c .before .if2 .taken) (c .refused2 .ensures) refl
+returns-2 c =
+    let the-args = c .before .before .before .before .before .before .before .before .before .before .before .before .before .before .args in
+    let the-pre = c .before .before .before .before .before .before .before .before .before .before .before .before .before .before .pre in
+    try-15 (the-args .present) (the-args .plan) _ _ _ _ _ (the-pre .0) (the-pre .1 .0) _ _ _ (omega arith) (c .before .if2 .taken) (c .refused2 .ensures) refl
 
 slice-aggregate-put-splice : tie.Need-slice-aggregate-put-splice
 slice-aggregate-put-splice c = sym (length-take-le _ _ (c .before .before .before .before .before .before .before .before .before .before .before .before .before .before .pre .0 .text-fits))
 
 put-splice-requires : tie.Need-put-splice-requires
-put-splice-requires c κs = let l = length-take-le (c .before .before .before .before .before .before .before .before .before .before .before .before .before .before .before .args .present .used .text) (c .before .before .before .before .before .before .before .before .before .before .before .before .before .before .before .args .text .now) (c .before .before .before .before .before .before .before .before .before .before .before .before .before .before .before .pre .0 .text-fits) in
-    let a = c .before .before .before .before .before .before .before .before .before .before .before .before .before .before .before .pre .1 .0 .forwards in let z = c .before .before .before .before .before .before .before .before .before .before .before .before .before .before .before .pre .1 .0 .ends in let d = c .before .before .before .before .before .before .before .before .before .before .before .before .before .before .before .pre .1 .1 in (omega arith, omega arith, omega arith)
+put-splice-requires c κs =
+    let the-args = c .before .before .before .before .before .before .before .before .before .before .before .before .before .before .before .args in
+    let the-pre = c .before .before .before .before .before .before .before .before .before .before .before .before .before .before .before .pre in
+    let l = length-take-le (the-args .present .used .text) (the-args .text .now) (the-pre .0 .text-fits) in
+    let a = the-pre .1 .0 .forwards in let z = the-pre .1 .0 .ends in let d = the-pre .1 .1 in (omega arith, omega arith, omega arith)
 
 slice-reshare-prefix-read-edition : tie.Need-slice-reshare-prefix-read-edition
 slice-reshare-prefix-read-edition c = omega arith
@@ -94,29 +98,7 @@ returns-4 c = try-16 (c .before .before .before .before .before .before .before 
 
 pub try-change-spec : {M : Type 1} → statement M
 try-change-spec =
-    tie.close
-    (tie.spec
-    add-new
-    sub-new
-    add-new-2
-    lesser-requires
-    refused-requires
-    returns
-    refused-requires-2
-    returns-2
-    slice-aggregate-put-splice
-    put-splice-requires
-    slice-reshare-prefix-read-edition
-    slice-aggregate-read-edition
-    read-edition-requires
-    enum-known-nodes
-    enum-told
-    slice-aggregate-read-edition-2
-    read-edition-requires-2
-    refused-requires-3
-    same-length
-    same-length-2
-    returns-3
-    same-length-3
-    same-length-4
-    returns-4)
+    tie.close (tie.spec add-new sub-new add-new-2 lesser-requires refused-requires returns refused-requires-2 returns-2
+    slice-aggregate-put-splice put-splice-requires slice-reshare-prefix-read-edition slice-aggregate-read-edition
+    read-edition-requires enum-known-nodes enum-told slice-aggregate-read-edition-2 read-edition-requires-2
+    refused-requires-3 same-length same-length-2 returns-3 same-length-3 same-length-4 returns-4)
