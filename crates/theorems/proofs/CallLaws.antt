@@ -12,7 +12,7 @@ use Rattle.reader.specs.Syntax.{Outcome, taken, refused}
 use Rattle.reader.specs.Reading.{reading, reads, isTaken, nodeCount, tableOf, answerOf}
 use Rattle.reader.proofs.NumberBound.{NumberWithin, number-law}
 use Rattle.reader.proofs.SizeLaws.{taken-is, taken-nodes}
-use Rattle.duper.specs.Numbers.{readNumber}
+use Rattle.duper.specs.Numbers.{packed, readNumber}
 use Rattle.theorems.specs.Insertion.{Insertion, insertedAt, withGaps, CommentsKept, SameData, Kept}
 use Rattle.theorems.specs.Nesting.{InParent, Nested}
 use Rattle.theorems.specs.Calls.{CommentsKeptOfCode, NestedOfCode, CommentsKeptOfCalls, NestedOfCalls}
@@ -33,7 +33,7 @@ taken-number (refused k p) e = cc
 
 -- no refusal is 0, so a number below 4294967296 is no refusal's
 number-taken : (o : Outcome) → NumberWithin o → readNumber o < 4294967296 → isTaken o ≡ true
-unfolding readNumber NumberWithin isTaken
+unfolding packed readNumber NumberWithin isTaken
 number-taken (taken t) w h = refl
 number-taken (refused k p) w h = let l = w .0 in absurd (omega arith)
 

@@ -11,6 +11,7 @@ use mathlib.Core.Option.{none, some}
 use mathlib.Core.List.{List, [], _∷_, _++_}
 use lib.ListN.{length}
 use Rattle.text.specs.declared.switches.Switches.{Switches}
+use Rattle.text.specs.Refusal.{refusal}
 use Rattle.text.specs.Switches.{presentEdition}
 use Rattle.text.specs.Bytes.{ascii, is, between, isDigit, digitValue}
 use Rattle.reader.specs.Syntax.{refused}
@@ -64,6 +65,10 @@ IndicesRead = (s : List ℕ) → IndexOf s
 
 -- ---- answers
 
+-- a refusal by its number and place
+abbrev pub refusedAt : (number place : ℕ) → Found
+refusedAt number place = F.Refused (refusal number place)
+
 module _ (sw : Switches) (words : ℕ) (text path : List ℕ) where
   -- what the call answers
   abbrev pub answer : Found
@@ -74,9 +79,9 @@ module _ (sw : Switches) (words : ℕ) (text path : List ℕ) where
     pub node : (n : ℕ) → answer ≡ F.At n → n < nodeCount (reading sw words text)
     -- "or 23 and the number of the first step, from 0": a step of the path, and one whose number is below the node count, so that it packs; a
     -- refused text has no nodes, so it was taken
-    pub step : (k : ℕ) → answer ≡ F.Refused 23 k → (k < length (steps path)) × (k < nodeCount (reading sw words text))
+    pub step : (k : ℕ) → answer ≡ refusedAt 23 k → (k < length (steps path)) × (k < nodeCount (reading sw words text))
     -- any other refusal is the reading's, one of 1 to 10
-    pub refusal : (number place : ℕ) → answer ≡ F.Refused number place → (number ≡ 23 → ⊥)
+    pub refusal : (number place : ℕ) → answer ≡ refusedAt number place → (number ≡ 23 → ⊥)
         → (reading sw words text ≡ refused number place) × (1 ≤ number) × (number ≤ 10)
 
 unfoldable pub PathsAnswered : Type 0
@@ -90,7 +95,7 @@ pub record FindCall (words : ℕ) (text path : List ℕ) : Type 0 where
 -- the number says which answer it is: below 4294967296 it is a node's, else it is a refusal times 4294967296 plus its place
 pub record Unpacked (words : ℕ) (text path : List ℕ) (a : FindCall words text path) : Type 0 where
   pub node : a .number < 4294967296 → answer presentEdition words text path ≡ F.At (a .number)
-  pub refusal : 4294967296 ≤ a .number → answer presentEdition words text path ≡ F.Refused (a .number / 4294967296) (a .number % 4294967296)
+  pub refusal : 4294967296 ≤ a .number → answer presentEdition words text path ≡ refusedAt (a .number / 4294967296) (a .number % 4294967296)
 
 unfoldable pub PathsUnpacked : Type 0
 PathsUnpacked = (words : ℕ) (text path : List ℕ) (a : FindCall words text path) → Unpacked words text path a
@@ -120,46 +125,46 @@ pub record PathsByHand : Type 0 where
   -- "In an object a step is the content of a key": not as it is written, and no identifier
   pub key : asked "balls" ≡ F.At 1
   pub key-by-content : asked "0" ≡ F.At 11
-  pub key-as-written : asked "\\x30" ≡ F.Refused 23 0
-  pub key-in-quotes : asked "\"0\"" ≡ F.Refused 23 0
-  pub key-in-part : asked "ball" ≡ F.Refused 23 0
-  pub key-and-more : asked "balls0" ≡ F.Refused 23 0
-  pub no-index-there : asked "00" ≡ F.Refused 23 0
-  pub identifier : asked "S" ≡ F.Refused 23 0
-  pub key-with-a-dot : asked "a.b" ≡ F.Refused 23 0
+  pub key-as-written : asked "\\x30" ≡ refusedAt 23 0
+  pub key-in-quotes : asked "\"0\"" ≡ refusedAt 23 0
+  pub key-in-part : asked "ball" ≡ refusedAt 23 0
+  pub key-and-more : asked "balls0" ≡ refusedAt 23 0
+  pub no-index-there : asked "00" ≡ refusedAt 23 0
+  pub identifier : asked "S" ≡ refusedAt 23 0
+  pub key-with-a-dot : asked "a.b" ≡ refusedAt 23 0
   -- "In an array or tuple it is a decimal index from 0"
   pub first-element : asked "balls.0" ≡ F.At 2
   pub nested : asked "balls.1.height_mm" ≡ F.At 4
   pub tuple : asked "balls.2" ≡ F.At 5
   pub in-tuple : asked "balls.2.1" ≡ F.At 7
-  pub past-the-end : asked "balls.3" ≡ F.Refused 23 1
+  pub past-the-end : asked "balls.3" ≡ refusedAt 23 1
   -- "without leading zeros", and nothing but digits
-  pub leading-zero : asked "balls.01" ≡ F.Refused 23 1
-  pub two-zeros : asked "balls.00" ≡ F.Refused 23 1
-  pub plus : asked "balls.+1" ≡ F.Refused 23 1
-  pub minus : asked "balls.-0" ≡ F.Refused 23 1
-  pub underscore : asked "balls.1_0" ≡ F.Refused 23 1
-  pub hex : asked "balls.0x1" ≡ F.Refused 23 1
-  pub no-digit : asked "balls.height_mm" ≡ F.Refused 23 1
+  pub leading-zero : asked "balls.01" ≡ refusedAt 23 1
+  pub two-zeros : asked "balls.00" ≡ refusedAt 23 1
+  pub plus : asked "balls.+1" ≡ refusedAt 23 1
+  pub minus : asked "balls.-0" ≡ refusedAt 23 1
+  pub underscore : asked "balls.1_0" ≡ refusedAt 23 1
+  pub hex : asked "balls.0x1" ≡ refusedAt 23 1
+  pub no-digit : asked "balls.height_mm" ≡ refusedAt 23 1
   -- 2^32 + 1 and 2^64 + 1 are no 1
-  pub wide : asked "balls.4294967297" ≡ F.Refused 23 1
-  pub wider : asked "balls.18446744073709551617" ≡ F.Refused 23 1
+  pub wide : asked "balls.4294967297" ≡ refusedAt 23 1
+  pub wider : asked "balls.18446744073709551617" ≡ refusedAt 23 1
   -- "the first step, from 0, that has no child to go to"
-  pub below-a-number : asked "balls.0.x" ≡ F.Refused 23 2
-  pub below-null : asked "balls.2.0.0.0" ≡ F.Refused 23 3
-  pub in-an-object : asked "balls.1.0" ≡ F.Refused 23 2
-  pub first-of-two : asked "x.y" ≡ F.Refused 23 0
+  pub below-a-number : asked "balls.0.x" ≡ refusedAt 23 2
+  pub below-null : asked "balls.2.0.0.0" ≡ refusedAt 23 3
+  pub in-an-object : asked "balls.1.0" ≡ refusedAt 23 2
+  pub first-of-two : asked "x.y" ≡ refusedAt 23 0
   -- "steps separated by `.`": empty ones too
   pub dot : asked "." ≡ F.At 10
-  pub two-dots : asked ".." ≡ F.Refused 23 2
-  pub dot-first : asked ".balls" ≡ F.Refused 23 1
-  pub dot-last : asked "balls." ≡ F.Refused 23 1
+  pub two-dots : asked ".." ≡ refusedAt 23 2
+  pub dot-first : asked ".balls" ≡ refusedAt 23 1
+  pub dot-last : asked "balls." ≡ refusedAt 23 1
   -- an index of two digits, a key in a raw string and one with an escape of two bytes, asked for by these bytes
   pub two-digits : asked-in many (ascii "10") ≡ F.At 11
   pub raw-key : asked-in many (ascii "10.x y") ≡ F.At 12
   pub beyond-ascii : asked-in many (ascii "10." ++ (0xC3 ∷ 0xA9 ∷ [])) ≡ F.At 13
-  pub not-utf8 : asked-in many (ascii "10." ++ (0xE9 ∷ [])) ≡ F.Refused 23 1
+  pub not-utf8 : asked-in many (ascii "10." ++ (0xE9 ∷ [])) ≡ refusedAt 23 1
   pub tuple-at-the-root : asked-in (ascii "(5)") (ascii "0") ≡ F.At 1
   -- "The call reads the text into the lent table itself": a refusal of the reading goes first
-  pub refused-text : answer presentEdition 144 (ascii "[,,]") (ascii "0") ≡ F.Refused 7 2
-  pub no-room : answer presentEdition 12 (ascii "[1]") [] ≡ F.Refused 10 1
+  pub refused-text : answer presentEdition 144 (ascii "[,,]") (ascii "0") ≡ refusedAt 7 2
+  pub no-room : answer presentEdition 12 (ascii "[1]") [] ≡ refusedAt 10 1

@@ -17,6 +17,7 @@ use lib.IntN.{pos, negsuc}
 use lib.Ieee.{Float, binary64, round, le, ofBits}
 use lib.Ieee.Exact.{HasValue}
 use Rattle.text.specs.declared.switches.Switches.{Switches}
+use Rattle.text.specs.Refusal.{refusal}
 use Rattle.text.specs.Switches.{presentEdition}
 use Rattle.text.specs.Bytes.{ascii}
 use Rattle.reader.specs.Tree as T
@@ -82,11 +83,15 @@ module _ (sw : Switches) (words : ℕ) (text : List ℕ) where
   abbrev pub answer : Summary
   answer = summary sw text (reading sw words text)
 
+-- a refusal by its number and place
+abbrev pub refusedAt : (number place : ℕ) → Summary
+refusedAt number place = S.Refused (refusal number place)
+
 -- the counts that an answer holds: "A refusal holds no counts or heights"
 unfoldable pub countsIn : Summary → Option Counts
 countsIn (S.WithHeights counts heights) = some counts
 countsIn (S.WithoutHeights counts) = some counts
-countsIn (S.Refused number place) = none
+countsIn (S.Refused f) = none
 
 -- the root is "an array of objects"
 pub record Records (tree : Tree) : Type 0 where
@@ -103,19 +108,19 @@ module _ (sw : Switches) (words : ℕ) (text : List ℕ) where
   -- every reading is one of these: refused, or a tree with a root of another shape, with a first element that is no object, or of records
   pub record SummaryAnswer : Type 0 where
     -- "after 1 to 10"
-    pub refused-text : (number place : ℕ) → reading sw words text ≡ refused number place → answer sw words text ≡ S.Refused number place
+    pub refused-text : (number place : ℕ) → reading sw words text ≡ refused number place → answer sw words text ≡ refusedAt number place
     -- "A root of another shape, or an element that isn't an object, is refused .. with 21 and the node's number, the smallest such"
-    pub other-root : (tree : Tree) → reading sw words text ≡ taken tree → (kindOf tree ≡ 2 → ⊥) → answer sw words text ≡ S.Refused 21 0
+    pub other-root : (tree : Tree) → reading sw words text ≡ taken tree → (kindOf tree ≡ 2 → ⊥) → answer sw words text ≡ refusedAt 21 0
     pub other-element : (tree : Tree) → reading sw words text ≡ taken tree → kindOf tree ≡ 2 → (i : ℕ) (c : Numbered) → FirstOther tree i c
-        → answer sw words text ≡ S.Refused 21 (c .number)
+        → answer sw words text ≡ refusedAt 21 (c .number)
     pub summarized : (tree : Tree) → reading sw words text ≡ taken tree → Records tree
         → (counts : Counts) × (countsIn (answer sw words text) ≡ some counts)
     -- and nothing else has a summary
     pub only : (counts : Counts) → countsIn (answer sw words text) ≡ some counts
         → (tree : Tree) × (reading sw words text ≡ taken tree) × Records tree
     -- "Demand 1 counts this number": a refusal is 21 with a node of a text that was taken, or the reading's, one of 1 to 10
-    pub of-a-node : (place : ℕ) → answer sw words text ≡ S.Refused 21 place → place < nodeCount (reading sw words text)
-    pub of-the-text : (number place : ℕ) → answer sw words text ≡ S.Refused number place → (number ≡ 21 → ⊥)
+    pub of-a-node : (place : ℕ) → answer sw words text ≡ refusedAt 21 place → place < nodeCount (reading sw words text)
+    pub of-the-text : (number place : ℕ) → answer sw words text ≡ refusedAt number place → (number ≡ 21 → ⊥)
         → (reading sw words text ≡ refused number place) × (1 ≤ number) × (number ≤ 10)
 
 unfoldable pub SummariesAnswered : Type 0
@@ -201,7 +206,7 @@ pub record SummaryUnpacked (words : ℕ) (text : List ℕ) (a : SummaryCall word
       → (c : Counts) × (answer presentEdition words text ≡ S.WithoutHeights c)
       × (a .counts ≡ c .measured ∷ c .null ∷ c .absent ∷ c .unfit ∷ []) × (a .heights ≡ a .lentHeights)
   pub refusal : 0 < a .number
-      → (answer presentEdition words text ≡ S.Refused (a .number / 4294967296) (a .number % 4294967296))
+      → (answer presentEdition words text ≡ refusedAt (a .number / 4294967296) (a .number % 4294967296))
       × (a .counts ≡ a .lentCounts) × (a .heights ≡ a .lentHeights)
 
 unfoldable pub SummariesUnpacked : Type 0
@@ -275,12 +280,12 @@ pub record SummariesByHand : Type 0 where
   pub rounded-mean : asked "[{height_mm:0.001},{height_mm:0.001},{height_mm:0.002}]"
       ≡ S.WithHeights (fourCounts 3 0 0 0) (record { least = ofBits binary64 0x3ff0000000000000; greatest = ofBits binary64 0x4000000000000000; mean = ofBits binary64 0x3ff5555555555555 })
   -- "A root of another shape, or an element that isn't an object, is refused .. with 21 and the node's number, the smallest such"
-  pub object-root : asked "{height_mm:5}" ≡ S.Refused 21 0
-  pub tuple-root : asked "({height_mm:5})" ≡ S.Refused 21 0
-  pub number-element : asked "[5]" ≡ S.Refused 21 1
-  pub array-element : asked "[[{height_mm:5}]]" ≡ S.Refused 21 1
-  pub first-of-two : asked "[{a:[1],height_mm:5},2,null]" ≡ S.Refused 21 5
+  pub object-root : asked "{height_mm:5}" ≡ refusedAt 21 0
+  pub tuple-root : asked "({height_mm:5})" ≡ refusedAt 21 0
+  pub number-element : asked "[5]" ≡ refusedAt 21 1
+  pub array-element : asked "[[{height_mm:5}]]" ≡ refusedAt 21 1
+  pub first-of-two : asked "[{a:[1],height_mm:5},2,null]" ≡ refusedAt 21 5
   -- "after 1 to 10"
-  pub refused-text : asked "[5" ≡ S.Refused 7 2
-  pub doubled-key : asked "[5,{height_mm:1,\"height\\x5Fmm\":2}]" ≡ S.Refused 8 16
-  pub no-room : answer presentEdition 12 (ascii "[{}]") ≡ S.Refused 10 1
+  pub refused-text : asked "[5" ≡ refusedAt 7 2
+  pub doubled-key : asked "[5,{height_mm:1,\"height\\x5Fmm\":2}]" ≡ refusedAt 8 16
+  pub no-room : answer presentEdition 12 (ascii "[{}]") ≡ refusedAt 10 1

@@ -16,54 +16,63 @@ use Rattle.path.specs.Path.{steps, follow, found}
 use Rattle.path.specs.declared.find.Found.{Found}
 use Rattle.path.specs.declared.find.Found.the-variants as F
 use Rattle.path.proofs.FoundLaws.{Leads, found-leads, found-node, found-place}
-use Rattle.duper.specs.Numbers.{foundNumber}
-use Rattle.theorems.specs.Path.{answer, PathsAnswered, FindCall, PathsUnpacked}
+use Rattle.duper.specs.Numbers.{packed, foundNumber}
+use Rattle.theorems.specs.Path.{refusedAt, answer, PathsAnswered, FindCall, PathsUnpacked}
+
+-- the number and the place of a refusal
+numberOf : Found → ℕ
+numberOf (F.At n) = 0
+numberOf (F.Refused f) = f .number
+
+placeOf : Found → ℕ
+placeOf (F.At n) = 0
+placeOf (F.Refused f) = f .place
 
 -- ---- a step
 
-step-leads : (nodes left k : ℕ) (a : Found) → Leads nodes 0 left a → a ≡ F.Refused 23 k → (k < left) × (k < nodes)
-unfolding Leads
+step-leads : (nodes left k : ℕ) (a : Found) → Leads nodes 0 left a → a ≡ refusedAt 23 k → (k < left) × (k < nodes)
+unfolding Leads placeOf
 step-leads nodes left k (F.At n) h e = let v : _≡_ {A = ℕ} 0 1 = cc in absurd (omega arith)
-step-leads nodes left k (F.Refused number j) h e =
-    let q : j ≡ k = cc in
+step-leads nodes left k (F.Refused f) h e =
+    let q : f .place ≡ k = ap placeOf e in
     let a = h .1 in
     let b = h .2 in
     (omega arith, omega arith)
 
 -- a path that leads nowhere is refused with 23
-step-number : (nodes left number place : ℕ) (a : Found) → Leads nodes 0 left a → a ≡ F.Refused number place → number ≡ 23
-unfolding Leads
+step-number : (nodes left number place : ℕ) (a : Found) → Leads nodes 0 left a → a ≡ refusedAt number place → number ≡ 23
+unfolding Leads numberOf
 step-number nodes left number place (F.At n) h e = cc
-step-number nodes left number place (F.Refused r p) h e = let q : r ≡ number = cc in sym q ∙ h .0
+step-number nodes left number place (F.Refused f) h e = sym (ap numberOf e) ∙ h .0
 
 module _ (sw : Switches) (text path : List ℕ) where
-  step-by : (k : ℕ) (o : Outcome) → NumberWithin o → found sw text path o ≡ F.Refused 23 k → (k < length (steps path)) × (k < nodeCount o)
-  unfolding found nodeCount NumberWithin
+  step-by : (k : ℕ) (o : Outcome) → NumberWithin o → found sw text path o ≡ refusedAt 23 k → (k < length (steps path)) × (k < nodeCount o)
+  unfolding found nodeCount NumberWithin numberOf
   step-by k (taken tree) n e =
       step-leads (size tree) (length (steps path)) k (follow sw text 0 0 tree (steps path)) (found-leads sw text tree path) e
   step-by k (refused number place) n e =
-      let q : number ≡ 23 = cc in
+      let q : number ≡ 23 = ap numberOf e in
       let b = n .1 in
       absurd (omega arith)
 
   -- ---- a refusal
 
-  refusal-by : (number place : ℕ) (o : Outcome) → NumberWithin o → found sw text path o ≡ F.Refused number place → (number ≡ 23 → ⊥)
+  refusal-by : (number place : ℕ) (o : Outcome) → NumberWithin o → found sw text path o ≡ refusedAt number place → (number ≡ 23 → ⊥)
       → (o ≡ refused number place) × (1 ≤ number) × (number ≤ 10)
-  unfolding found NumberWithin
+  unfolding found NumberWithin numberOf placeOf
   refusal-by number place (taken tree) n e not = absurd (not (step-number (size tree) (length (steps path)) number place (follow sw text 0 0 tree (steps path)) (found-leads sw text tree path) e))
   refusal-by number place (refused r p) n e not =
-      let q : r ≡ number = cc in
+      let q : r ≡ number = ap numberOf e in
       let a = n .0 in
       let b = n .1 in
-      (cc, omega arith, omega arith)
+      ((λ i. refused (ap numberOf e i) (ap placeOf e i)), omega arith, omega arith)
 
   -- every refusal has a number
-  some-number : (number place : ℕ) (o : Outcome) → NumberWithin o → found sw text path o ≡ F.Refused number place → 1 ≤ number
-  unfolding found NumberWithin
+  some-number : (number place : ℕ) (o : Outcome) → NumberWithin o → found sw text path o ≡ refusedAt number place → 1 ≤ number
+  unfolding found NumberWithin numberOf
   some-number number place (taken tree) n e = let q = step-number (size tree) (length (steps path)) number place (follow sw text 0 0 tree (steps path)) (found-leads sw text tree path) e in omega arith
   some-number number place (refused r p) n e =
-      let q : r ≡ number = cc in
+      let q : r ≡ number = ap numberOf e in
       let a = n .0 in
       omega arith
 
@@ -80,20 +89,20 @@ paths-answered sw words text path =
 
 module _ (words : ℕ) (text path : List ℕ) (a : FindCall words text path) where
   abbrev Numbered : Found → Type 0
-  Numbered f = (a .number < 4294967296 → f ≡ F.At (a .number)) × (4294967296 ≤ a .number → f ≡ F.Refused (a .number / 4294967296) (a .number % 4294967296))
+  Numbered f = (a .number < 4294967296 → f ≡ F.At (a .number)) × (4294967296 ≤ a .number → f ≡ refusedAt (a .number / 4294967296) (a .number % 4294967296))
 
   unpacked-by : (f : Found) → answer presentEdition words text path ≡ f → a .number ≡ foundNumber f → Numbered f
-  unfolding foundNumber
+  unfolding foundNumber packed
   unpacked-by (F.At n) e q =
       let l = found-node presentEdition words text path n (sym e) in
       let c = count-law presentEdition words text in
       ((λ _. ap F.At (sym q)), λ h. absurd (omega arith))
-  unpacked-by (F.Refused number place) e q =
-      let p = found-place presentEdition words text path number place (sym e) in
-      let s = some-number presentEdition text path number place (reading presentEdition words text) (number-law presentEdition words text) e in
-      let d : number ≡ a .number / 4294967296 = omega arith in
-      let m : place ≡ a .number % 4294967296 = omega arith in
-      ((λ h. absurd (omega arith)), λ _. λ i. F.Refused (d i) (m i))
+  unpacked-by (F.Refused f) e q =
+      let p = found-place presentEdition words text path f (sym e) in
+      let s = some-number presentEdition text path (f .number) (f .place) (reading presentEdition words text) (number-law presentEdition words text) e in
+      let d : f .number ≡ a .number / 4294967296 = omega arith in
+      let m : f .place ≡ a .number % 4294967296 = omega arith in
+      ((λ h. absurd (omega arith)), λ _. λ i. refusedAt (d i) (m i))
 
 pub paths-unpacked : PathsUnpacked
 unfolding PathsUnpacked

@@ -13,8 +13,8 @@ use Rattle.summary.specs.declared.summary.Heights.{Heights}
 use Rattle.summary.specs.declared.summary.Summary.{Summary}
 use Rattle.summary.specs.declared.summary.Summary.the-variants as S
 use Rattle.summary.proofs.AnswerLaws.{summary-place}
-use Rattle.duper.specs.Numbers.{summaryNumber, summaryCounts, summaryHeights, SummaryCrosses}
-use Rattle.theorems.specs.Summary.{answer, countsIn, HeightsHeld, SummaryCall, SummaryUnpacked, SummariesUnpacked}
+use Rattle.duper.specs.Numbers.{packed, summaryNumber, summaryCounts, summaryHeights, SummaryCrosses}
+use Rattle.theorems.specs.Summary.{refusedAt, answer, countsIn, HeightsHeld, SummaryCall, SummaryUnpacked, SummariesUnpacked}
 use Rattle.theorems.proofs.Summary.ShapeLaw.{counted-root, some-number}
 use Rattle.theorems.proofs.Summary.FloatLaw.{heights-held}
 
@@ -37,7 +37,7 @@ module _ (words : ℕ) (text : List ℕ) where
   module _ (a : SummaryCall words text) where
     unpacked-by : (s : Summary) → answer presentEdition words text ≡ s → SummaryCrosses s (a .number) (a .lentCounts) (a .counts) (a .lentHeights) (a .heights)
         → SummaryUnpacked words text a
-    unfolding summaryNumber summaryCounts summaryHeights
+    unfolding packed summaryNumber summaryCounts summaryHeights
     unpacked-by (S.WithHeights c h) e X =
         let n = X .number-is in
         let m = some-measured c h e in
@@ -56,16 +56,16 @@ module _ (words : ℕ) (text : List ℕ) where
           without = λ _ _. (c, e, X .counts-are, X .heights-are);
           refusal = λ z. absurd (omega arith);
         }
-    unpacked-by (S.Refused number place) e X =
+    unpacked-by (S.Refused f) e X =
         let n = X .number-is in
-        let p = summary-place presentEdition words text number place (sym e) in
-        let s = some-number presentEdition text (reading presentEdition words text) number place (number-law presentEdition words text) e in
-        let d : number ≡ a .number / 4294967296 = omega arith in
-        let m : place ≡ a .number % 4294967296 = omega arith in
+        let p = summary-place presentEdition words text f (sym e) in
+        let s = some-number presentEdition text (reading presentEdition words text) (f .number) (f .place) (number-law presentEdition words text) e in
+        let d : f .number ≡ a .number / 4294967296 = omega arith in
+        let m : f .place ≡ a .number % 4294967296 = omega arith in
         record {
           with-heights = λ z _. absurd (omega arith);
           without = λ z _. absurd (omega arith);
-          refusal = λ _. (e ∙ (λ i. S.Refused (d i) (m i)), X .counts-are, X .heights-are);
+          refusal = λ _. (e ∙ (λ i. refusedAt (d i) (m i)), X .counts-are, X .heights-are);
         }
 
 pub summaries-unpacked : SummariesUnpacked

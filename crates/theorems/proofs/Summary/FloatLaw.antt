@@ -28,7 +28,7 @@ use Rattle.summary.specs.declared.summary.Heights.{Heights}
 use Rattle.summary.specs.declared.summary.Summary.the-variants as S
 use Rattle.summary.proofs.SummaryLaws.{Low, heights-low, measured-length}
 use Rattle.summary.proofs.AnswerLaws.{with-few}
-use Rattle.theorems.specs.Summary.{Holds, ExtremesHeld, Is, Floats, HeightsHeld, MissingApart}
+use Rattle.theorems.specs.Summary.{refusedAt, Holds, ExtremesHeld, Is, Floats, HeightsHeld, MissingApart}
 use Rattle.theorems.proofs.Summary.ShapeLaw.{of-array}
 
 -- ---- the least and the greatest
@@ -199,10 +199,10 @@ none-by hs c [] e q = (e, cc)
 none-by hs c (u ∷ k) e q = let v : _≡_ {A = ℕ} 0 1 = cc in absurd (omega arith)
 
 -- neither kind of summary is a refusal
-with-is : (c : Counts) (h : Heights) (number place : ℕ) → S.Refused number place ≡ S.WithHeights c h → ⊥
+with-is : (c : Counts) (h : Heights) (number place : ℕ) → refusedAt number place ≡ S.WithHeights c h → ⊥
 with-is c h number place e = let v : _≡_ {A = ℕ} 0 1 = cc in omega arith
 
-without-is : (c : Counts) (number place : ℕ) → S.Refused number place ≡ S.WithoutHeights c → ⊥
+without-is : (c : Counts) (number place : ℕ) → refusedAt number place ≡ S.WithoutHeights c → ⊥
 without-is c number place e = let v : _≡_ {A = ℕ} 0 1 = cc in omega arith
 
 pub heights-held : HeightsHeld

@@ -26,7 +26,7 @@ use Rattle.summary.specs.declared.summary.Summary.the-variants as S
 use Rattle.summary.proofs.RecordLaws.{isOther, any-number}
 use Rattle.summary.proofs.SummaryLaws.{counts-add-up, elements, other-root, array-root}
 use Rattle.summary.proofs.AnswerLaws.{recordsOf, heights-length, OfRoot, of-root}
-use Rattle.theorems.specs.Summary.{countsIn, Records, FirstOther, SummariesAnswered, RecordsRead, CountsAddUp}
+use Rattle.theorems.specs.Summary.{refusedAt, countsIn, Records, FirstOther, SummariesAnswered, RecordsRead, CountsAddUp}
 
 -- ---- the first that passes a test, and the i-th
 
@@ -80,8 +80,19 @@ with-counts c (u ∷ l) = refl
 
 -- ---- the answer
 
+-- the number and the place of a refusal
+numberOf : Summary → ℕ
+numberOf (S.WithHeights counts heights) = 0
+numberOf (S.WithoutHeights counts) = 0
+numberOf (S.Refused f) = f .number
+
+placeOf : Summary → ℕ
+placeOf (S.WithHeights counts heights) = 0
+placeOf (S.WithoutHeights counts) = 0
+placeOf (S.Refused f) = f .place
+
 module _ (sw : Switches) (text : List ℕ) where
-  by-element : (t : Tree) (i : ℕ) (c : Numbered) → FirstOther t i c → elements sw text t ≡ S.Refused 21 (c .number)
+  by-element : (t : Tree) (i : ℕ) (c : Numbered) → FirstOther t i c → elements sw text t ≡ refusedAt 21 (c .number)
   unfolding ofRecords element
   by-element t i c F =
       ap (ofRecords sw text (childrenOf t))
@@ -92,7 +103,7 @@ module _ (sw : Switches) (text : List ℕ) where
   by-records t R = ap (ofRecords sw text (childrenOf t)) (all-fail isOther 1 (childrenOf t) (λ i c q. kind-object (c .value) (R .objects i c q)))
 
   -- a root's summary that is no refusal is that of its records
-  module _ (a : Summary) (summarized : (number place : ℕ) → S.Refused number place ≡ a → ⊥) where
+  module _ (a : Summary) (summarized : (number place : ℕ) → refusedAt number place ≡ a → ⊥) where
     of-records : (t : Tree) (o : Option Numbered) → firstThat isOther 1 (childrenOf t) ≡ o → ofRecords sw text (childrenOf t) o ≡ a
         → ((i : ℕ) (d : Numbered) → element i 0 t ≡ some d → kindOf (d .value) ≡ 1) × (ofHeights (recordHeights sw text (childrenOf t)) ≡ a)
     unfolding ofRecords element
@@ -119,34 +130,34 @@ module _ (sw : Switches) (text : List ℕ) where
 
   -- ---- its numbers
 
-  root-named : (t : Tree) (number place : ℕ) → ofRoot sw text t ≡ S.Refused number place → (number ≡ 21) × (place < size t)
+  root-named : (t : Tree) (number place : ℕ) → ofRoot sw text t ≡ refusedAt number place → (number ≡ 21) × (place < size t)
   unfolding OfRoot
   root-named t number place e = subst (OfRoot (size t)) e (of-root sw text t)
 
-  named-node : (o : Outcome) (place : ℕ) → NumberWithin o → summary sw text o ≡ S.Refused 21 place → place < nodeCount o
-  unfolding summary nodeCount NumberWithin
+  named-node : (o : Outcome) (place : ℕ) → NumberWithin o → summary sw text o ≡ refusedAt 21 place → place < nodeCount o
+  unfolding summary nodeCount NumberWithin numberOf
   named-node (taken t) place n e = root-named t 21 place e .1
   named-node (refused r p) place n e =
-      let q : r ≡ 21 = cc in
+      let q : r ≡ 21 = ap numberOf e in
       let b = n .1 in
       absurd (omega arith)
 
-  named-text : (o : Outcome) (number place : ℕ) → NumberWithin o → summary sw text o ≡ S.Refused number place → (number ≡ 21 → ⊥)
+  named-text : (o : Outcome) (number place : ℕ) → NumberWithin o → summary sw text o ≡ refusedAt number place → (number ≡ 21 → ⊥)
       → (o ≡ refused number place) × (1 ≤ number) × (number ≤ 10)
-  unfolding summary NumberWithin
+  unfolding summary NumberWithin numberOf placeOf
   named-text (taken t) number place n e not = absurd (not (root-named t number place e .0))
   named-text (refused r p) number place n e not =
-      let q : r ≡ number = cc in
+      let q : r ≡ number = ap numberOf e in
       let a = n .0 in
       let b = n .1 in
-      (cc, omega arith, omega arith)
+      ((λ i. refused (ap numberOf e i) (ap placeOf e i)), omega arith, omega arith)
 
   -- every refusal has a number
-  pub some-number : (o : Outcome) (number place : ℕ) → NumberWithin o → summary sw text o ≡ S.Refused number place → 1 ≤ number
-  unfolding summary NumberWithin
+  pub some-number : (o : Outcome) (number place : ℕ) → NumberWithin o → summary sw text o ≡ refusedAt number place → 1 ≤ number
+  unfolding summary NumberWithin numberOf
   some-number (taken t) number place n e = let q = root-named t number place e .0 in omega arith
   some-number (refused r p) number place n e =
-      let q : r ≡ number = cc in
+      let q : r ≡ number = ap numberOf e in
       let a = n .0 in
       omega arith
 
