@@ -70,11 +70,8 @@ fn tell(change: Change, answer: &mut [u64; 3]) -> u64
     requires { ⌜ PlaceFits (change .verdict) ⌝ }
     ensures { λ r. ⌜ (r ≡ verdictNumber (change .verdict)) × (now (answer .exit) ≡ wordsOf change) ⌝ }
 {
-    *answer = [
-        change.nodes as u64,
-        change.used.text as u64,
-        change.used.journal as u64,
-    ];
+    let used = change.used;
+    *answer = [change.nodes as u64, used.text as u64, used.journal as u64];
     let verdict = change.verdict;
     match verdict {
         Verdict::Done => 0,

@@ -16,7 +16,7 @@ enum-known-verdict : tie.Need-enum-known-verdict
 enum-known-verdict c = search needs
 
 packed-requires : tie.Need-packed-requires
-packed-requires c κs = told-place (c .before .verdict .given .1) (c .before .before .before .before .pre)
+packed-requires c κs = told-place (c .before .verdict .given .1) (c .before .before .before .before .before .pre)
 
 returns : tie.Need-returns
 unfolding wordsOf
