@@ -1,13 +1,10 @@
+-- made by tools/proof.py from answers/duper_correct (answers 7b7618b0db1c, proof 36d6ab8cf4d3): edit that file, not this one
+use borrow.Author.Needs.{needs}
 use native.Mathlib.Omega.{arith}
 use Rattle.text.specs.Switches.{presentEdition}
 use Rattle.duper.proofs.ChangeLaws.{correct-place, fits, crosses}
-use borrow.Author.Needs.{needs}
 use Rattle.duper.proofs.duper_correct.Statement.{statement}
 use Rattle.duper.proofs.duper_correct.Tie as tie
-use Rattle.duper.proofs.duper_correct.Reads as reads
-use Rattle.duper.proofs.duper_correct.Lts as lts
-use Rattle.duper.proofs.tell.Reads as tell-reads
-use Rattle.editor.proofs.edit.correct.Reads as correct-reads
 
 correct-requires : tie.Need-correct-requires
 correct-requires c κs = search needs
@@ -29,5 +26,4 @@ returns c = crosses (c .before .before .before .before .before .before .before .
 
 pub duper-correct-spec : {M : Type 1} → statement M
 duper-correct-spec =
-    tie.close
-    (tie.spec correct-requires tell-requires same-length same-length-2 same-length-3 returns)
+    tie.close (tie.spec correct-requires tell-requires same-length same-length-2 same-length-3 returns)

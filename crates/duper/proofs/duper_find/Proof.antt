@@ -1,16 +1,13 @@
+-- made by tools/proof.py from answers/duper_find (answers 26dab9e42698, proof 78432de4c143): edit that file, not this one
+use borrow.Author.Needs.{needs}
 use native.Mathlib.Omega.{arith}
 use mathlib.Core.Path.{sym, _∙_}
 use lib.ListN.{length}
 use Rattle.text.specs.Switches.{presentEdition}
 use Rattle.path.proofs.FoundLaws.{found-place}
 use Rattle.duper.proofs.NumberLaws.{node-number, step-number}
-use borrow.Author.Needs.{needs}
 use Rattle.duper.proofs.duper_find.Statement.{statement}
 use Rattle.duper.proofs.duper_find.Tie as tie
-use Rattle.duper.proofs.duper_find.Reads as reads
-use Rattle.duper.proofs.duper_find.Lts as lts
-use Rattle.duper.proofs.packed.Reads as packed-reads
-use Rattle.path.proofs.find.find.Reads as find-reads
 
 find-requires : tie.Need-find-requires
 find-requires c κs = search needs
@@ -22,29 +19,27 @@ enum-known-refusal : tie.Need-enum-known-refusal
 enum-known-refusal c = search needs
 
 packed-requires : tie.Need-packed-requires
-packed-requires c κs = found-place presentEdition (length (c .before .before .before .before .before .before .before .before .before .before .args .table .now)) (c .before .before .before .before .before .before .before .before .before .before .args .text .now) (c .before .before .before .before .before .before .before .before .before .before .args .path .now) _ (sym (c .before .refusal .given .1) ∙ c .before .before .before .before .before .find .ensures .0)
+packed-requires c κs =
+    let the-args = c .before .before .before .before .before .before .before .before .before .before .args in
+    found-place presentEdition (length (the-args .table .now)) (the-args .text .now) (the-args .path .now) _ (sym (c .before .refusal .given .1) ∙ c .before .before .before .before .before .find .ensures .0)
 
 same-length : tie.Need-same-length
 same-length c = omega arith
 
 returns : tie.Need-returns
-returns c = (node-number _ _ (sym (c .before .node .given .1) ∙ c .before .before .before .before .before .find .ensures .0), c .before .before .before .before .before .find .ensures .1)
+returns c =
+    let the-find = c .before .before .before .before .before .find in
+    (node-number _ _ (sym (c .before .node .given .1) ∙ the-find .ensures .0), the-find .ensures .1)
 
 same-length-2 : tie.Need-same-length-2
 same-length-2 c = omega arith
 
 returns-2 : tie.Need-returns-2
-returns-2 c = (c .packed .ensures ∙ step-number _ _ (sym (c .before .before .refusal .given .1) ∙ c .before .before .before .before .before .before .find .ensures .0), c .before .before .before .before .before .before .find .ensures .1)
+returns-2 c =
+    let the-find = c .before .before .before .before .before .before .find in
+    (c .packed .ensures ∙ step-number _ _ (sym (c .before .before .refusal .given .1) ∙ the-find .ensures .0), the-find .ensures .1)
 
 pub duper-find-spec : {M : Type 1} → statement M
 duper-find-spec =
-    tie.close
-    (tie.spec
-    find-requires
-    enum-known-node
-    enum-known-refusal
-    packed-requires
-    same-length
-    returns
-    same-length-2
-    returns-2)
+    tie.close (tie.spec find-requires enum-known-node enum-known-refusal packed-requires same-length returns
+    same-length-2 returns-2)

@@ -1,13 +1,10 @@
+-- made by tools/proof.py from answers/duper_undo (answers b724d618420d, proof 10d77be90e82): edit that file, not this one
+use borrow.Author.Needs.{needs}
 use native.Mathlib.Omega.{arith}
 use Rattle.text.specs.Switches.{presentEdition}
 use Rattle.duper.proofs.ChangeLaws.{undo-place, fits, crosses}
-use borrow.Author.Needs.{needs}
 use Rattle.duper.proofs.duper_undo.Statement.{statement}
 use Rattle.duper.proofs.duper_undo.Tie as tie
-use Rattle.duper.proofs.duper_undo.Reads as reads
-use Rattle.duper.proofs.duper_undo.Lts as lts
-use Rattle.duper.proofs.tell.Reads as tell-reads
-use Rattle.editor.proofs.edit.undo.Reads as undo-reads
 
 undo-requires : tie.Need-undo-requires
 undo-requires c κs = search needs
@@ -29,5 +26,4 @@ returns c = crosses (c .before .before .before .before .before .before .undo .en
 
 pub duper-undo-spec : {M : Type 1} → statement M
 duper-undo-spec =
-    tie.close
-    (tie.spec undo-requires tell-requires same-length same-length-2 same-length-3 returns)
+    tie.close (tie.spec undo-requires tell-requires same-length same-length-2 same-length-3 returns)

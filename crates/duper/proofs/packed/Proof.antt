@@ -1,11 +1,9 @@
+-- made by tools/proof.py from answers/packed (answers 01abdaf4675f, proof 25d0925fe94b): edit that file, not this one
 use native.Mathlib.Omega.{arith}
 use mathlib.Core.Path.{refl}
 use Rattle.duper.specs.Numbers.{packed}
-use borrow.Author.Needs.{needs}
 use Rattle.duper.proofs.packed.Statement.{statement}
 use Rattle.duper.proofs.packed.Tie as tie
-use Rattle.duper.proofs.packed.Reads as reads
-use Rattle.duper.proofs.packed.Lts as lts
 
 cast-result : tie.Need-cast-result
 cast-result c = omega arith
@@ -21,4 +19,5 @@ unfolding packed
 returns c = refl
 
 pub packed-spec : {M : Type 1} → statement M
-packed-spec = tie.close (tie.spec cast-result mul-result add-result returns)
+packed-spec =
+    tie.close (tie.spec cast-result mul-result add-result returns)

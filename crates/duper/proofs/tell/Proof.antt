@@ -1,13 +1,10 @@
-use native.Mathlib.Omega.{arith}
+-- made by tools/proof.py from answers/tell (answers 6824f4f308c8, proof b5952ca5a4bb): edit that file, not this one
+use borrow.Author.Needs.{needs}
 use mathlib.Core.Path.{refl, _∙_}
 use Rattle.duper.specs.Internal.{wordsOf}
 use Rattle.duper.proofs.ChangeLaws.{told-done, told-refused, told-place}
-use borrow.Author.Needs.{needs}
 use Rattle.duper.proofs.tell.Statement.{statement}
 use Rattle.duper.proofs.tell.Tie as tie
-use Rattle.duper.proofs.tell.Reads as reads
-use Rattle.duper.proofs.tell.Lts as lts
-use Rattle.duper.proofs.packed.Reads as packed-reads
 
 enum-told : tie.Need-enum-told
 enum-told c = search needs
@@ -27,4 +24,5 @@ unfolding wordsOf
 returns-2 c = (c .packed .ensures ∙ told-refused (c .before .before .verdict .given .1), refl)
 
 pub tell-spec : {M : Type 1} → statement M
-tell-spec = tie.close (tie.spec enum-told enum-known-verdict packed-requires returns returns-2)
+tell-spec =
+    tie.close (tie.spec enum-told enum-known-verdict packed-requires returns returns-2)
