@@ -1,3 +1,4 @@
+-- made by tools/proof.py from answers/input/fill (answers 64b26303e0da, proof 2ef9bd9a8700): edit that file, not this one
 use borrow.Author.Needs.{needs}
 use native.Mathlib.Omega.{arith}
 use mathlib.Core.Path.{_≡_, sym}
@@ -6,10 +7,6 @@ use lib.ListN.{length}
 use lib.Seq.{length-take-le}
 use Rattle.console.proofs.input.fill.Statement.{statement}
 use Rattle.console.proofs.input.fill.Tie as tie
-use Rattle.console.proofs.input.fill.Reads as reads
-use Rattle.console.proofs.input.fill.Lts as lts
-use Rattle.io.proofs.count.Reads as count-reads
-use Rattle.libc.proofs.read.Reads as read-reads
 
 abbrev Inv-loop : tie.InvT-loop
 Inv-loop fd buf₀ n₀ buf n = (n ≤ length buf) × (length buf ≡ length buf₀)
@@ -73,25 +70,6 @@ returns-3 c = (omega arith, sym (length-take-le _ _ (omega arith)))
 
 pub fill-spec : {M : Type 1} → statement M
 fill-spec =
-    tie.close
-    (tie.spec
-    Inv-loop
-    μ-loop
-    loop-holds
-    sub-read
-    part-read-start
-    part-read-end
-    read-requires
-    same-length
-    returns
-    sub-count
-    part-count-start
-    part-count-end
-    count-requires
-    same-length-2
-    returns-2
-    add-n
-    loop-less
-    loop-again
-    same-length-3
-    returns-3)
+    tie.close (tie.spec Inv-loop μ-loop loop-holds sub-read part-read-start part-read-end read-requires same-length
+    returns sub-count part-count-start part-count-end count-requires same-length-2 returns-2 add-n loop-less loop-again
+    same-length-3 returns-3)

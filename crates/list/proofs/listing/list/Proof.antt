@@ -1,13 +1,7 @@
-use native.Mathlib.Omega.{arith}
-use Rattle.list.proofs.ListingLaws.{rows-inside}
+-- made by tools/proof.py from answers/listing/list (answers 89905e1f18e2, proof bfab185e2179): edit that file, not this one
 use borrow.Author.Needs.{needs}
 use Rattle.list.proofs.listing.list.Statement.{statement}
 use Rattle.list.proofs.listing.list.Tie as tie
-use Rattle.list.proofs.listing.list.Reads as reads
-use Rattle.list.proofs.listing.list.Lts as lts
-use Rattle.console.proofs.lines.refused.Reads as refused-reads
-use Rattle.list.proofs.listing.nodes.Reads as nodes-reads
-use Rattle.reader.proofs.read.read.Reads as read-reads
 
 slice-aggregate-read : tie.Need-slice-aggregate-read
 slice-aggregate-read c = search needs
@@ -22,7 +16,7 @@ slice-aggregate-nodes : tie.Need-slice-aggregate-nodes
 slice-aggregate-nodes c = search needs
 
 nodes-requires : tie.Need-nodes-requires
-nodes-requires c κs = rows-inside _ _ _ _ _ (c .before .before .count .given .0 .0) (c .before .before .before .before .before .read .ensures .0) (c .before .before .count .given .1) (c .before .before .before .before .before .read .ensures .1)
+nodes-requires c κs = search needs
 
 enum-known-refusal : tie.Need-enum-known-refusal
 enum-known-refusal c = search needs
@@ -38,14 +32,5 @@ returns-2 c = search needs
 
 pub list-spec : {M : Type 1} → statement M
 list-spec =
-    tie.close
-    (tie.spec
-    slice-aggregate-read
-    read-requires
-    enum-known-count
-    slice-aggregate-nodes
-    nodes-requires
-    enum-known-refusal
-    refused-requires
-    returns
-    returns-2)
+    tie.close (tie.spec slice-aggregate-read read-requires enum-known-count slice-aggregate-nodes nodes-requires
+    enum-known-refusal refused-requires returns returns-2)

@@ -1,12 +1,9 @@
+-- made by tools/proof.py from answers/listing/nodes (answers 927475e5530f, proof 48761a9e944e): edit that file, not this one
 use borrow.Author.Needs.{needs}
 use native.Mathlib.Omega.{arith}
 use Prim.Native.Nat.{_≤_, _-_}
 use Rattle.list.proofs.listing.nodes.Statement.{statement}
 use Rattle.list.proofs.listing.nodes.Tie as tie
-use Rattle.list.proofs.listing.nodes.Reads as reads
-use Rattle.list.proofs.listing.nodes.Lts as lts
-use Rattle.console.proofs.lines.node.Reads as node-reads
-use Rattle.reader.proofs.rows.word.Reads as word-reads
 
 abbrev Inv-loop : tie.InvT-loop
 Inv-loop table count i₀ i = i ≤ count
@@ -17,23 +14,14 @@ abbrev μ-loop : tie.MeasureT-loop
 loop-holds : tie.Need-loop-holds Inv-loop μ-loop
 loop-holds c = omega arith
 
-mul-at : tie.Need-mul-at Inv-loop μ-loop
-mul-at c = omega arith
+word-of-requires : tie.Need-word-of-requires Inv-loop μ-loop
+word-of-requires c κs = search needs
 
-word-requires : tie.Need-word-requires Inv-loop μ-loop
-word-requires c κs = search needs
+word-of-requires-2 : tie.Need-word-of-requires-2 Inv-loop μ-loop
+word-of-requires-2 c κs = search needs
 
-add-word : tie.Need-add-word Inv-loop μ-loop
-add-word c = omega arith
-
-word-requires-2 : tie.Need-word-requires-2 Inv-loop μ-loop
-word-requires-2 c κs = search needs
-
-add-word-2 : tie.Need-add-word-2 Inv-loop μ-loop
-add-word-2 c = omega arith
-
-word-requires-3 : tie.Need-word-requires-3 Inv-loop μ-loop
-word-requires-3 c κs = search needs
+word-of-requires-3 : tie.Need-word-of-requires-3 Inv-loop μ-loop
+word-of-requires-3 c κs = search needs
 
 node-requires : tie.Need-node-requires Inv-loop μ-loop
 node-requires c κs = search needs
@@ -55,20 +43,5 @@ returns-2 c = omega arith
 
 pub nodes-spec : {M : Type 1} → statement M
 nodes-spec =
-    tie.close
-    (tie.spec
-    Inv-loop
-    μ-loop
-    loop-holds
-    mul-at
-    word-requires
-    add-word
-    word-requires-2
-    add-word-2
-    word-requires-3
-    node-requires
-    returns
-    add-i
-    loop-less
-    loop-again
-    returns-2)
+    tie.close (tie.spec Inv-loop μ-loop loop-holds word-of-requires word-of-requires-2 word-of-requires-3 node-requires
+    returns add-i loop-less loop-again returns-2)
