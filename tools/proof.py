@@ -445,8 +445,11 @@ def fill(name, fn):
     text = with_closing(with_imports(text, file))
     first = '-- made by tools/proof.py from answers/%s (answers %s, proof %s): edit that file, not this one\n'
     path = proof_path(name, fn)
-    write(path, first % (fn, digest(open(source, 'rb').read()), digest_of_proof(text)) + text)
+    write(path, text)
+    # the digest is of the text as `rt fmt` lays it out, which may add a comma
     said = run('rattle', 'fmt', '--write', path).strip()
+    text = read(path)
+    write(path, first % (fn, digest(open(source, 'rb').read()), digest_of_proof(text)) + text)
     print('wrote ' + path)
     if said:
         print(said)

@@ -1,13 +1,11 @@
+-- made by tools/proof.py from answers/closing/after_other (answers 2614261ceeb8, proof c360be8c9328): edit that file, not this one
+use borrow.Author.Needs.{needs}
 use native.Mathlib.Omega.{arith}
 use borrow.Author.Tests.{eq-eqb, ne-eqb}
 use native.Mathlib.Numerals.{add-one}
 use Rattle.lexer.specs.Closing.{afterOther}
-use borrow.Author.Needs.{needs}
 use Rattle.lexer.proofs.closing.after_other.Statement.{statement}
 use Rattle.lexer.proofs.closing.after_other.Tie as tie
-use Rattle.lexer.proofs.closing.after_other.Reads as reads
-use Rattle.lexer.proofs.closing.after_other.Lts as lts
-use Rattle.lexer.proofs.closing.after_quote.Reads as after-quote-reads
 
 add-after-quote : tie.Need-add-after-quote
 add-after-quote c = omega arith
@@ -42,14 +40,4 @@ returns-4 c = rw (ne-eqb _ _ (c .before .before .if1 .left), add-one, eq-eqb _ _
 
 pub after-other-spec : {M : Type 1} → statement M
 after-other-spec =
-    tie.close
-    (tie.spec
-    add-after-quote
-    after-quote-requires
-    returns
-    add-t7
-    returns-2
-    add-t8
-    returns-3
-    add-t9
-    returns-4)
+    tie.close (tie.spec add-after-quote after-quote-requires returns add-t7 returns-2 add-t8 returns-3 add-t9 returns-4)

@@ -1,13 +1,12 @@
+-- made by tools/proof.py from answers/closing/block_step (answers 3fb15953078c, proof b43cbbe12602): edit that file, not this one
+use borrow.Author.Needs.{needs}
 use native.Mathlib.Omega.{arith}
 use borrow.Author.Tests.{eq-eqb, ne-eqb}
 use native.Mathlib.Numerals.{add-one}
 use Rattle.lexer.specs.Closing.{blockStep}
 use Rattle.lexer.specs.Internal.{blockRead}
-use borrow.Author.Needs.{needs}
 use Rattle.lexer.proofs.closing.block_step.Statement.{statement}
 use Rattle.lexer.proofs.closing.block_step.Tie as tie
-use Rattle.lexer.proofs.closing.block_step.Reads as reads
-use Rattle.lexer.proofs.closing.block_step.Lts as lts
 
 enum-known-state : tie.Need-enum-known-state
 enum-known-state c = search needs
@@ -64,19 +63,5 @@ returns-6 c = rw (c .before .state3 .given .1)
 
 pub block-step-spec : {M : Type 1} → statement M
 block-step-spec =
-    tie.close
-    (tie.spec
-    enum-known-state
-    add-t8
-    returns
-    add-t9
-    enum-known-state-2
-    add-t11
-    returns-2
-    add-t12
-    returns-3
-    add-t13
-    enum-known-state-3
-    returns-4
-    returns-5
-    returns-6)
+    tie.close (tie.spec enum-known-state add-t8 returns add-t9 enum-known-state-2 add-t11 returns-2 add-t12 returns-3
+    add-t13 enum-known-state-3 returns-4 returns-5 returns-6)

@@ -1,16 +1,13 @@
+-- made by tools/proof.py from answers/closing/closing_step (answers 934d8994bc10, proof 38f3d7a0b348): edit that file, not this one
+use borrow.Author.Needs.{needs}
 use native.Mathlib.Omega.{arith}
 use mathlib.Core.Path.{ap}
 use borrow.Author.Tests.{eq-eqb, ne-eqb}
 use native.Mathlib.Numerals.{add-one}
 use Rattle.lexer.specs.Closing.{closingStep}
 use Rattle.lexer.specs.Internal.{closingRead}
-use borrow.Author.Needs.{needs}
 use Rattle.lexer.proofs.closing.closing_step.Statement.{statement}
 use Rattle.lexer.proofs.closing.closing_step.Tie as tie
-use Rattle.lexer.proofs.closing.closing_step.Reads as reads
-use Rattle.lexer.proofs.closing.closing_step.Lts as lts
-use Rattle.lexer.proofs.closing.after_other.Reads as after-other-reads
-use Rattle.lexer.proofs.closing.after_quote.Reads as after-quote-reads
 
 enum-known-state : tie.Need-enum-known-state
 enum-known-state c = search needs
@@ -69,20 +66,6 @@ returns-5 c = rw (c .before .state4 .given .1)
 
 pub closing-step-spec : {M : Type 1} → statement M
 closing-step-spec =
-    tie.close
-    (tie.spec
-    enum-known-state
-    after-other-requires
-    enum-known-state-2
-    add-t11
-    enum-known-state-3
-    add-after-quote
-    add-after-quote-2
-    after-quote-requires
-    returns
-    after-other-requires-2
-    enum-known-state-4
-    returns-2
-    returns-3
-    returns-4
-    returns-5)
+    tie.close (tie.spec enum-known-state after-other-requires enum-known-state-2 add-t11 enum-known-state-3
+    add-after-quote add-after-quote-2 after-quote-requires returns after-other-requires-2 enum-known-state-4 returns-2
+    returns-3 returns-4 returns-5)

@@ -1,11 +1,9 @@
-use native.Mathlib.Omega.{arith}
+-- made by tools/proof.py from answers/closing/is_closed (answers 5777afe09563, proof 60cf84391ad8): edit that file, not this one
+use borrow.Author.Needs.{needs}
 use mathlib.Core.Path.{sym, ap}
 use Rattle.lexer.specs.Internal.{isClosed}
-use borrow.Author.Needs.{needs}
 use Rattle.lexer.proofs.closing.is_closed.Statement.{statement}
 use Rattle.lexer.proofs.closing.is_closed.Tie as tie
-use Rattle.lexer.proofs.closing.is_closed.Reads as reads
-use Rattle.lexer.proofs.closing.is_closed.Lts as lts
 
 enum-told : tie.Need-enum-told
 enum-told c = search needs
@@ -37,5 +35,4 @@ returns-4 c = sym (ap isClosed (c .enum-told4 .given .1))
 
 pub is-closed-spec : {M : Type 1} → statement M
 is-closed-spec =
-    tie.close
-    (tie.spec enum-told enum-told-2 enum-told-3 enum-told-4 returns returns-2 returns-3 returns-4)
+    tie.close (tie.spec enum-told enum-told-2 enum-told-3 enum-told-4 returns returns-2 returns-3 returns-4)

@@ -1,11 +1,9 @@
-use native.Mathlib.Omega.{arith}
+-- made by tools/proof.py from answers/closing/is_shut (answers 76c222776aa2, proof 56e1804e527a): edit that file, not this one
+use borrow.Author.Needs.{needs}
 use mathlib.Core.Path.{sym, ap}
 use Rattle.lexer.specs.Internal.{isShut}
-use borrow.Author.Needs.{needs}
 use Rattle.lexer.proofs.closing.is_shut.Statement.{statement}
 use Rattle.lexer.proofs.closing.is_shut.Tie as tie
-use Rattle.lexer.proofs.closing.is_shut.Reads as reads
-use Rattle.lexer.proofs.closing.is_shut.Lts as lts
 
 enum-told : tie.Need-enum-told
 enum-told c = search needs
@@ -29,4 +27,5 @@ unfolding isShut
 returns-3 c = sym (ap isShut (c .enum-told3 .given .1))
 
 pub is-shut-spec : {M : Type 1} → statement M
-is-shut-spec = tie.close (tie.spec enum-told enum-told-2 enum-told-3 returns returns-2 returns-3)
+is-shut-spec =
+    tie.close (tie.spec enum-told enum-told-2 enum-told-3 returns returns-2 returns-3)

@@ -1,3 +1,5 @@
+-- made by tools/proof.py from answers/item/block_item (answers a4f873ed92a2, proof 03723e976064): edit that file, not this one
+use borrow.Author.Needs.{needs}
 use native.Mathlib.Omega.{arith}
 use mathlib.Core.Path.{sym, ap, _∙_}
 use lib.ListN.{length, drop, length-drop}
@@ -6,12 +8,8 @@ use Rattle.lexer.specs.Token.{blockItem}
 use Rattle.lexer.specs.Answer.{found}
 use Rattle.lexer.specs.declared.item.Found.the-variants as F
 use Rattle.lexer.proofs.ClosingLaws.{shut-le}
-use borrow.Author.Needs.{needs}
 use Rattle.lexer.proofs.item.block_item.Statement.{statement}
 use Rattle.lexer.proofs.item.block_item.Tie as tie
-use Rattle.lexer.proofs.item.block_item.Reads as reads
-use Rattle.lexer.proofs.item.block_item.Lts as lts
-use Rattle.lexer.proofs.closing.find_block.Reads as find-block-reads
 
 add-find-block : tie.Need-add-find-block
 add-find-block c = omega arith
@@ -32,8 +30,10 @@ add-t7 : tie.Need-add-t7
 add-t7 c = omega arith
 
 add-t8 : tie.Need-add-t8
-add-t8 c = let h = shut-le (drop (c .before .before .before .before .before .args .at + 2) (c .before .before .before .before .before .args .text .now)) (c .before .n .given .0 .0) (sym (c .before .before .before .find-block .ensures) ∙ c .before .n .given .1) in
-    let d = length-drop (c .before .before .before .before .before .args .at + 2) (c .before .before .before .before .before .args .text .now) in omega arith
+add-t8 c =
+    let the-args = c .before .before .before .before .before .args in
+    let h = shut-le (drop (the-args .at + 2) (the-args .text .now)) (c .before .n .given .0 .0) (sym (c .before .before .before .find-block .ensures) ∙ c .before .n .given .1) in
+    let d = length-drop (the-args .at + 2) (the-args .text .now) in omega arith
 
 returns : tie.Need-returns
 unfolding found blockItem
@@ -49,15 +49,5 @@ returns-3 c = rw (sym (c .before .before .before .find-block .ensures) ∙ c .be
 
 pub block-item-spec : {M : Type 1} → statement M
 block-item-spec =
-    tie.close
-    (tie.spec
-    add-find-block
-    find-block-requires
-    enum-told
-    enum-told-2
-    enum-known-n
-    add-t7
-    add-t8
-    returns
-    returns-2
-    returns-3)
+    tie.close (tie.spec add-find-block find-block-requires enum-told enum-told-2 enum-known-n add-t7 add-t8 returns
+    returns-2 returns-3)

@@ -1,12 +1,10 @@
+-- made by tools/proof.py from answers/item/content_item (answers f39873fb172f, proof de32fade9376): edit that file, not this one
+use borrow.Author.Needs.{needs}
 use native.Mathlib.Omega.{arith}
 use mathlib.Core.Path.{sym, _∙_}
 use Rattle.lexer.proofs.PlaceLaws.{text-found, bytes-found, content-refused}
-use borrow.Author.Needs.{needs}
 use Rattle.lexer.proofs.item.content_item.Statement.{statement}
 use Rattle.lexer.proofs.item.content_item.Tie as tie
-use Rattle.lexer.proofs.item.content_item.Reads as reads
-use Rattle.lexer.proofs.item.content_item.Lts as lts
-use Rattle.literals.proofs.content.measure_content.Reads as measure-content-reads
 
 add-end : tie.Need-add-end
 add-end c = omega arith
@@ -43,16 +41,5 @@ returns-3 c = content-refused (c .before .before .before .before .before .before
 
 pub content-item-spec : {M : Type 1} → statement M
 content-item-spec =
-    tie.close
-    (tie.spec
-    add-end
-    add-end-2
-    sub-measure-content
-    part-measure-content-start
-    part-measure-content-end
-    measure-content-requires
-    enum-known-n
-    returns
-    enum-told
-    returns-2
-    returns-3)
+    tie.close (tie.spec add-end add-end-2 sub-measure-content part-measure-content-start part-measure-content-end
+    measure-content-requires enum-known-n returns enum-told returns-2 returns-3)

@@ -1,11 +1,9 @@
-use native.Mathlib.Omega.{arith}
+-- made by tools/proof.py from answers/item/has_escapes (answers c9e6fef0c538, proof 0ad2d3dde353): edit that file, not this one
+use borrow.Author.Needs.{needs}
 use mathlib.Core.Path.{sym, ap}
 use Rattle.lexer.specs.Token.{hasEscapes}
-use borrow.Author.Needs.{needs}
 use Rattle.lexer.proofs.item.has_escapes.Statement.{statement}
 use Rattle.lexer.proofs.item.has_escapes.Tie as tie
-use Rattle.lexer.proofs.item.has_escapes.Reads as reads
-use Rattle.lexer.proofs.item.has_escapes.Lts as lts
 
 enum-told : tie.Need-enum-told
 enum-told c = search needs
@@ -37,5 +35,4 @@ returns-4 c = sym (ap hasEscapes (c .enum-told4 .given .1))
 
 pub has-escapes-spec : {M : Type 1} → statement M
 has-escapes-spec =
-    tie.close
-    (tie.spec enum-told enum-told-2 enum-told-3 enum-told-4 returns returns-2 returns-3 returns-4)
+    tie.close (tie.spec enum-told enum-told-2 enum-told-3 enum-told-4 returns returns-2 returns-3 returns-4)

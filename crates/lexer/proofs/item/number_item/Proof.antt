@@ -1,3 +1,5 @@
+-- made by tools/proof.py from answers/item/number_item (answers f59f9907f1d0, proof 817f9b1e3995): edit that file, not this one
+use borrow.Author.Needs.{needs}
 use native.Mathlib.Omega.{arith}
 use mathlib.Core.Path.{_≡_, refl, sym, ap, _∙_}
 use lib.ListN.{length, drop}
@@ -12,13 +14,8 @@ use Rattle.lexer.specs.declared.item.Found.the-variants as F
 use Rattle.lexer.specs.Token.{meantItem}
 use Rattle.lexer.specs.Answer.{found, kindOf}
 use Rattle.lexer.proofs.PlaceLaws.{run-within, number-found}
-use borrow.Author.Needs.{needs}
 use Rattle.lexer.proofs.item.number_item.Statement.{statement}
 use Rattle.lexer.proofs.item.number_item.Tie as tie
-use Rattle.lexer.proofs.item.number_item.Reads as reads
-use Rattle.lexer.proofs.item.number_item.Lts as lts
-use Rattle.lexer.proofs.runs.number_end.Reads as number-end-reads
-use Rattle.literals.proofs.number.number_of.Reads as number-of-reads
 
 add-number-end : tie.Need-add-number-end
 add-number-end c = omega arith
@@ -27,13 +24,17 @@ number-end-requires : tie.Need-number-end-requires
 number-end-requires c κs = c .before .pre .0
 
 sub-number-of : tie.Need-sub-number-of
-sub-number-of c = let w = run-within isNumberByte (c .before .before .args .text .now) (c .before .before .args .at + 1) (omega arith) in omega arith
+sub-number-of c =
+    let the-args = c .before .before .args in
+    let w = run-within isNumberByte (the-args .text .now) (the-args .at + 1) (omega arith) in omega arith
 
 part-number-of-start : tie.Need-part-number-of-start
 part-number-of-start c = omega arith
 
 part-number-of-end : tie.Need-part-number-of-end
-part-number-of-end c = let w = run-within isNumberByte (c .before .before .args .text .now) (c .before .before .args .at + 1) (omega arith) in let e = c .number-end .ensures in omega arith
+part-number-of-end c =
+    let the-args = c .before .before .args in
+    let w = run-within isNumberByte (the-args .text .now) (the-args .at + 1) (omega arith) in let e = c .number-end .ensures in omega arith
 
 number-of-requires : tie.Need-number-of-requires
 number-of-requires c κs = search needs
@@ -52,37 +53,35 @@ enum-told-2 c = search needs
 
 returns : tie.Need-returns
 unfolding found meantItem kindOf
-returns c = ap (λ (z : ℤ). F.Token (K.Integer z) (c .before .before .before .before .before .number-end .result)) (toZ-ofZ {w = w64} {z = c .before .value .given .0 .0} (record { sfits = c .known-told .given .0 .1 }))
-    ∙ ap (F.Token (K.Integer (c .before .value .given .0 .0))) (omega arith) ∙ sym (number-found (c .before .before .before .before .before .before .before .args .text .now) (c .before .before .before .before .before .before .before .args .at) (c .before .before .before .before .before .number-end .result) (omega arith) (N.Integer (c .before .value .given .0 .0)) (c .before .before .before .before .before .number-end .ensures) (sym (c .before .before .before .number-of .ensures) ∙ c .before .value .given .1))
+returns c =
+    let the-number-end = c .before .before .before .before .before .number-end in
+    let the-args = c .before .before .before .before .before .before .before .args in
+    ap (λ (z : ℤ). F.Token (K.Integer z) (the-number-end .result)) (toZ-ofZ {w = w64} {z = c .before .value .given .0 .0} (record { sfits = c .known-told .given .0 .1 }))
+    ∙ ap (F.Token (K.Integer (c .before .value .given .0 .0))) (omega arith) ∙ sym (number-found (the-args .text .now) (the-args .at) (the-number-end .result) (omega arith) (N.Integer (c .before .value .given .0 .0)) (the-number-end .ensures) (sym (c .before .before .before .number-of .ensures) ∙ c .before .value .given .1))
 
 returns-2 : tie.Need-returns-2
 unfolding found meantItem kindOf
-returns-2 c = ap (λ (z : ℤ). F.Token (K.Decimal (c .before .minus .given .0 .0) (c .before .minus .given .0 .1 .0) z) (c .before .before .before .before .before .number-end .result)) (toZ-ofZ {w = w64} {z = c .before .minus .given .0 .1 .1 .0} (record { sfits = c .known-told2 .given .1 .1 .0 .1 }))
-    ∙ ap (F.Token (K.Decimal (c .before .minus .given .0 .0) (c .before .minus .given .0 .1 .0) (c .before .minus .given .0 .1 .1 .0))) (omega arith) ∙ sym (number-found (c .before .before .before .before .before .before .before .args .text .now) (c .before .before .before .before .before .before .before .args .at) (c .before .before .before .before .before .number-end .result) (omega arith) (N.Decimal (c .before .minus .given .0 .0) (c .before .minus .given .0 .1 .0) (c .before .minus .given .0 .1 .1 .0)) (c .before .before .before .before .before .number-end .ensures) (sym (c .before .before .before .number-of .ensures) ∙ c .before .minus .given .1))
+returns-2 c =
+    let the-number-end = c .before .before .before .before .before .number-end in
+    let the-args = c .before .before .before .before .before .before .before .args in
+    ap (λ (z : ℤ). F.Token (K.Decimal (c .before .minus .given .0 .0) (c .before .minus .given .0 .1 .0) z) (the-number-end .result)) (toZ-ofZ {w = w64} {z = c .before .minus .given .0 .1 .1 .0} (record { sfits = c .known-told2 .given .1 .1 .0 .1 }))
+    ∙ ap (F.Token (K.Decimal (c .before .minus .given .0 .0) (c .before .minus .given .0 .1 .0) (c .before .minus .given .0 .1 .1 .0))) (omega arith) ∙ sym (number-found (the-args .text .now) (the-args .at) (the-number-end .result) (omega arith) (N.Decimal (c .before .minus .given .0 .0) (c .before .minus .given .0 .1 .0) (c .before .minus .given .0 .1 .1 .0)) (the-number-end .ensures) (sym (c .before .before .before .number-of .ensures) ∙ c .before .minus .given .1))
 
 returns-3 : tie.Need-returns-3
 unfolding found meantItem kindOf
-returns-3 c = sym (number-found (c .before .before .before .before .before .before .args .text .now) (c .before .before .before .before .before .before .args .at) (c .before .before .before .before .number-end .result) (omega arith) N.Malformed (c .before .before .before .before .number-end .ensures) (sym (c .before .before .number-of .ensures) ∙ c .enum-told .given .1))
+returns-3 c =
+    let the-args = c .before .before .before .before .before .before .args in
+    let the-number-end = c .before .before .before .before .number-end in
+    sym (number-found (the-args .text .now) (the-args .at) (the-number-end .result) (omega arith) N.Malformed (the-number-end .ensures) (sym (c .before .before .number-of .ensures) ∙ c .enum-told .given .1))
 
 returns-4 : tie.Need-returns-4
 unfolding found meantItem kindOf
-returns-4 c = sym (number-found (c .before .before .before .before .before .before .args .text .now) (c .before .before .before .before .before .before .args .at) (c .before .before .before .before .number-end .result) (omega arith) N.TooWide (c .before .before .before .before .number-end .ensures) (sym (c .before .before .number-of .ensures) ∙ c .enum-told2 .given .1))
+returns-4 c =
+    let the-args = c .before .before .before .before .before .before .args in
+    let the-number-end = c .before .before .before .before .number-end in
+    sym (number-found (the-args .text .now) (the-args .at) (the-number-end .result) (omega arith) N.TooWide (the-number-end .ensures) (sym (c .before .before .number-of .ensures) ∙ c .enum-told2 .given .1))
 
 pub number-item-spec : {M : Type 1} → statement M
 number-item-spec =
-    tie.close
-    (tie.spec
-    add-number-end
-    number-end-requires
-    sub-number-of
-    part-number-of-start
-    part-number-of-end
-    number-of-requires
-    enum-known-value
-    enum-known-minus
-    enum-told
-    enum-told-2
-    returns
-    returns-2
-    returns-3
-    returns-4)
+    tie.close (tie.spec add-number-end number-end-requires sub-number-of part-number-of-start part-number-of-end
+    number-of-requires enum-known-value enum-known-minus enum-told enum-told-2 returns returns-2 returns-3 returns-4)

@@ -1,16 +1,13 @@
+-- made by tools/proof.py from answers/item/word_item (answers bb4224fd9ea4, proof a9e6a1c1255d): edit that file, not this one
+use borrow.Author.Needs.{needs}
 use native.Mathlib.Omega.{arith}
 use mathlib.Core.Path.{_≡_, refl, sym, ap, _∙_}
 use lib.ListN.{length, drop}
 use Prim.Native.Nat.{ℕ, _+_, _-_, suc, _≤_}
 use Rattle.text.specs.Bytes.{isWordByte}
 use Rattle.lexer.proofs.PlaceLaws.{run-within, word-found, word-bad}
-use borrow.Author.Needs.{needs}
 use Rattle.lexer.proofs.item.word_item.Statement.{statement}
 use Rattle.lexer.proofs.item.word_item.Tie as tie
-use Rattle.lexer.proofs.item.word_item.Reads as reads
-use Rattle.lexer.proofs.item.word_item.Lts as lts
-use Rattle.lexer.proofs.runs.word_end.Reads as word-end-reads
-use Rattle.literals.proofs.word.has_shape.Reads as has-shape-reads
 
 add-word-end : tie.Need-add-word-end
 add-word-end c = omega arith
@@ -19,32 +16,34 @@ word-end-requires : tie.Need-word-end-requires
 word-end-requires c κs = c .before .pre .0
 
 sub-has-shape : tie.Need-sub-has-shape
-sub-has-shape c = let w = run-within isWordByte (c .before .before .args .text .now) (c .before .before .args .at + 1) (omega arith) in omega arith
+sub-has-shape c =
+    let the-args = c .before .before .args in
+    let w = run-within isWordByte (the-args .text .now) (the-args .at + 1) (omega arith) in omega arith
 
 part-has-shape-start : tie.Need-part-has-shape-start
 part-has-shape-start c = omega arith
 
 part-has-shape-end : tie.Need-part-has-shape-end
-part-has-shape-end c = let w = run-within isWordByte (c .before .before .args .text .now) (c .before .before .args .at + 1) (omega arith) in let e = c .word-end .ensures in omega arith
+part-has-shape-end c =
+    let the-args = c .before .before .args in
+    let w = run-within isWordByte (the-args .text .now) (the-args .at + 1) (omega arith) in let e = c .word-end .ensures in omega arith
 
 has-shape-requires : tie.Need-has-shape-requires
 has-shape-requires c κs = search needs
 
 returns : tie.Need-returns
-returns c = word-found (c .before .before .before .before .before .args .text .now) (c .before .before .before .before .before .args .at) (c .before .before .before .word-end .result) (omega arith) (c .before .before .before .word-end .ensures) (sym (c .before .has-shape .ensures) ∙ c .if1 .taken)
+returns c =
+    let the-args = c .before .before .before .before .before .args in
+    let the-word-end = c .before .before .before .word-end in
+    word-found (the-args .text .now) (the-args .at) (the-word-end .result) (omega arith) (the-word-end .ensures) (sym (c .before .has-shape .ensures) ∙ c .if1 .taken)
 
 returns-2 : tie.Need-returns-2
-returns-2 c = word-bad (c .before .before .before .before .before .args .text .now) (c .before .before .before .before .before .args .at) (c .before .before .before .word-end .result) (omega arith) (c .before .before .before .word-end .ensures) (sym (c .before .has-shape .ensures) ∙ c .if1 .left)
+returns-2 c =
+    let the-args = c .before .before .before .before .before .args in
+    let the-word-end = c .before .before .before .word-end in
+    word-bad (the-args .text .now) (the-args .at) (the-word-end .result) (omega arith) (the-word-end .ensures) (sym (c .before .has-shape .ensures) ∙ c .if1 .left)
 
 pub word-item-spec : {M : Type 1} → statement M
 word-item-spec =
-    tie.close
-    (tie.spec
-    add-word-end
-    word-end-requires
-    sub-has-shape
-    part-has-shape-start
-    part-has-shape-end
-    has-shape-requires
-    returns
-    returns-2)
+    tie.close (tie.spec add-word-end word-end-requires sub-has-shape part-has-shape-start part-has-shape-end
+    has-shape-requires returns returns-2)

@@ -1,21 +1,15 @@
+-- made by tools/proof.py from answers/opening/bytes_opening (answers 04cbc4368320, proof 4bbe109d8be2): edit that file, not this one
+use borrow.Author.Needs.{needs}
 use native.Mathlib.Omega.{arith}
 use mathlib.Core.Path.{_≡_, sym, ap, _∙_}
 use lib.ListN.{drop}
 use Prim.Native.Nat.{ℕ, _+_}
 use borrow.Author.Tests.{eq-eqb, ne-eqb}
 use Rattle.text.proofs.ListLaws.{getD-inside}
-use Rattle.literals.specs.declared.decoder.Body.the-variants as Y
 use Rattle.lexer.specs.Opening.{rawOpening}
 use Rattle.lexer.proofs.OpeningLaws.{bytes-at}
-use borrow.Author.Needs.{needs}
 use Rattle.lexer.proofs.opening.bytes_opening.Statement.{statement}
 use Rattle.lexer.proofs.opening.bytes_opening.Tie as tie
-use Rattle.lexer.proofs.opening.bytes_opening.Reads as reads
-use Rattle.lexer.proofs.opening.bytes_opening.Lts as lts
-use Rattle.lexer.proofs.opening.opens_base64.Reads as opens-base64-reads
-use Rattle.lexer.proofs.opening.raw_opening.Reads as raw-opening-reads
-use Rattle.lexer.proofs.opening.string_opening.Reads as string-opening-reads
-use Rattle.text.proofs.bytes.byte_at.Reads as byte-at-reads
 
 add-byte-at : tie.Need-add-byte-at
 add-byte-at c = omega arith
@@ -27,7 +21,9 @@ string-opening-requires : tie.Need-string-opening-requires
 string-opening-requires c κs = search needs
 
 returns : tie.Need-returns
-returns c = rw (bytes-at (c .before .before .before .before .args .sw) (c .before .before .before .before .args .text .now) (c .before .before .before .before .args .at + 1), ← c .before .before .byte-at .ensures, eq-eqb _ _ (c .before .if1 .taken)) (c .string-opening .ensures)
+returns c =
+    let the-args = c .before .before .before .before .args in
+    rw (bytes-at (the-args .sw) (the-args .text .now) (the-args .at + 1), ← c .before .before .byte-at .ensures, eq-eqb _ _ (c .before .if1 .taken)) (c .string-opening .ensures)
 
 add-opens-base64 : tie.Need-add-opens-base64
 add-opens-base64 c = omega arith
@@ -39,34 +35,30 @@ string-opening-requires-2 : tie.Need-string-opening-requires-2
 string-opening-requires-2 c κs = search needs
 
 returns-2 : tie.Need-returns-2
-returns-2 c = rw (bytes-at (c .before .before .before .before .before .before .args .sw) (c .before .before .before .before .before .before .args .text .now) (c .before .before .before .before .before .before .args .at + 1), ← c .before .before .before .before .byte-at .ensures, ne-eqb _ _ (c .before .before .before .if1 .left), sym (c .before .before .opens-base64 .ensures) ∙ c .before .if2 .taken) (c .string-opening2 .ensures)
+returns-2 c =
+    let the-args = c .before .before .before .before .before .before .args in
+    rw (bytes-at (the-args .sw) (the-args .text .now) (the-args .at + 1), ← c .before .before .before .before .byte-at .ensures, ne-eqb _ _ (c .before .before .before .if1 .left), sym (c .before .before .opens-base64 .ensures) ∙ c .before .if2 .taken) (c .string-opening2 .ensures)
 
 add-raw-opening : tie.Need-add-raw-opening
-add-raw-opening c = let h = getD-inside (c .before .before .before .before .before .before .args .text .now) (c .before .before .before .before .before .before .args .at + 1) 114 (sym (c .before .before .before .before .byte-at .ensures) ∙ c .if3 .taken) (omega arith) in omega arith
+add-raw-opening c =
+    let the-args = c .before .before .before .before .before .before .args in
+    let h = getD-inside (the-args .text .now) (the-args .at + 1) 114 (sym (c .before .before .before .before .byte-at .ensures) ∙ c .if3 .taken) (omega arith) in omega arith
 
 raw-opening-requires : tie.Need-raw-opening-requires
 raw-opening-requires c κs = search needs
 
 returns-3 : tie.Need-returns-3
-returns-3 c = let j : c .before .before .before .before .before .before .before .args .at + 1 + 1 ≡ c .before .before .before .before .before .before .before .args .at + 2 = omega arith in
-    rw (bytes-at (c .before .before .before .before .before .before .before .args .sw) (c .before .before .before .before .before .before .before .args .text .now) (c .before .before .before .before .before .before .before .args .at + 1), ← c .before .before .before .before .before .byte-at .ensures, ne-eqb _ _ (c .before .before .before .before .if1 .left), sym (c .before .before .before .opens-base64 .ensures) ∙ c .before .before .if2 .left, eq-eqb _ _ (c .before .if3 .taken), j) (c .raw-opening .ensures)
+returns-3 c =
+    let the-args = c .before .before .before .before .before .before .before .args in
+    let j : the-args .at + 1 + 1 ≡ the-args .at + 2 = omega arith in
+    rw (bytes-at (the-args .sw) (the-args .text .now) (the-args .at + 1), ← c .before .before .before .before .before .byte-at .ensures, ne-eqb _ _ (c .before .before .before .before .if1 .left), sym (c .before .before .before .opens-base64 .ensures) ∙ c .before .before .if2 .left, eq-eqb _ _ (c .before .if3 .taken), j) (c .raw-opening .ensures)
 
 returns-4 : tie.Need-returns-4
-returns-4 c = rw (bytes-at (c .before .before .before .before .before .before .args .sw) (c .before .before .before .before .before .before .args .text .now) (c .before .before .before .before .before .before .args .at + 1), ← c .before .before .before .before .byte-at .ensures, ne-eqb _ _ (c .before .before .before .if1 .left), sym (c .before .before .opens-base64 .ensures) ∙ c .before .if2 .left, ne-eqb _ _ (c .if3 .left))
+returns-4 c =
+    let the-args = c .before .before .before .before .before .before .args in
+    rw (bytes-at (the-args .sw) (the-args .text .now) (the-args .at + 1), ← c .before .before .before .before .byte-at .ensures, ne-eqb _ _ (c .before .before .before .if1 .left), sym (c .before .before .opens-base64 .ensures) ∙ c .before .if2 .left, ne-eqb _ _ (c .if3 .left))
 
 pub bytes-opening-spec : {M : Type 1} → statement M
 bytes-opening-spec =
-    tie.close
-    (tie.spec
-    add-byte-at
-    byte-at-requires
-    string-opening-requires
-    returns
-    add-opens-base64
-    opens-base64-requires
-    string-opening-requires-2
-    returns-2
-    add-raw-opening
-    raw-opening-requires
-    returns-3
-    returns-4)
+    tie.close (tie.spec add-byte-at byte-at-requires string-opening-requires returns add-opens-base64
+    opens-base64-requires string-opening-requires-2 returns-2 add-raw-opening raw-opening-requires returns-3 returns-4)

@@ -1,17 +1,13 @@
+-- made by tools/proof.py from answers/opening/raw_opening (answers 315b87c80bb9, proof 6150a1021a2e): edit that file, not this one
+use borrow.Author.Needs.{needs}
 use native.Mathlib.Omega.{arith}
 use mathlib.Core.Path.{sym, _∙_}
 use Prim.Native.Nat.{_-_, _+_}
 use borrow.Author.Tests.{eq-eqb, ne-eqb}
 use Rattle.text.proofs.ListLaws.{getD-inside}
 use Rattle.lexer.proofs.OpeningLaws.{raw-at}
-use borrow.Author.Needs.{needs}
 use Rattle.lexer.proofs.opening.raw_opening.Statement.{statement}
 use Rattle.lexer.proofs.opening.raw_opening.Tie as tie
-use Rattle.lexer.proofs.opening.raw_opening.Reads as reads
-use Rattle.lexer.proofs.opening.raw_opening.Lts as lts
-use Rattle.lexer.proofs.opening.string_opening.Reads as string-opening-reads
-use Rattle.lexer.proofs.runs.hashes_end.Reads as hashes-end-reads
-use Rattle.text.proofs.bytes.byte_at.Reads as byte-at-reads
 
 hashes-end-requires : tie.Need-hashes-end-requires
 hashes-end-requires c κs = search needs
@@ -32,24 +28,24 @@ string-opening-requires : tie.Need-string-opening-requires
 string-opening-requires c κs = search needs
 
 returns : tie.Need-returns
-returns c = rw (raw-at (c .before .before .before .before .before .args .is-text) (c .before .before .before .before .before .args .before) (c .before .before .before .before .before .args .text .now) (c .before .before .before .before .before .args .from) (c .before .before .before .hashes-end .result - c .before .before .before .before .before .args .from) (c .before .before .before .hashes-end .result) (omega arith) (omega arith), ← c .before .before .byte-at .ensures, eq-eqb _ _ (c .before .if1 .taken)) (c .string-opening .ensures)
+returns c =
+    let the-args = c .before .before .before .before .before .args in
+    let the-hashes-end = c .before .before .before .hashes-end in
+    rw (raw-at (the-args .is-text) (the-args .before) (the-args .text .now) (the-args .from) (the-hashes-end .result - the-args .from) (the-hashes-end .result) (omega arith) (omega arith), ← c .before .before .byte-at .ensures, eq-eqb _ _ (c .before .if1 .taken)) (c .string-opening .ensures)
 
 returns-2 : tie.Need-returns-2
-returns-2 c = rw (raw-at (c .before .before .before .before .before .args .is-text) (c .before .before .before .before .before .args .before) (c .before .before .before .before .before .args .text .now) (c .before .before .before .before .before .args .from) (c .before .before .before .hashes-end .result - c .before .before .before .before .before .args .from) (c .before .before .before .hashes-end .result) (omega arith) (omega arith), ← c .before .before .byte-at .ensures, ne-eqb _ _ (c .before .if1 .left), eq-eqb _ _ (c .if2 .taken))
+returns-2 c =
+    let the-args = c .before .before .before .before .before .args in
+    let the-hashes-end = c .before .before .before .hashes-end in
+    rw (raw-at (the-args .is-text) (the-args .before) (the-args .text .now) (the-args .from) (the-hashes-end .result - the-args .from) (the-hashes-end .result) (omega arith) (omega arith), ← c .before .before .byte-at .ensures, ne-eqb _ _ (c .before .if1 .left), eq-eqb _ _ (c .if2 .taken))
 
 returns-3 : tie.Need-returns-3
-returns-3 c = rw (raw-at (c .before .before .before .before .before .args .is-text) (c .before .before .before .before .before .args .before) (c .before .before .before .before .before .args .text .now) (c .before .before .before .before .before .args .from) (c .before .before .before .hashes-end .result - c .before .before .before .before .before .args .from) (c .before .before .before .hashes-end .result) (omega arith) (omega arith), ← c .before .before .byte-at .ensures, ne-eqb _ _ (c .before .if1 .left), ne-eqb _ _ (c .if2 .left))
+returns-3 c =
+    let the-args = c .before .before .before .before .before .args in
+    let the-hashes-end = c .before .before .before .hashes-end in
+    rw (raw-at (the-args .is-text) (the-args .before) (the-args .text .now) (the-args .from) (the-hashes-end .result - the-args .from) (the-hashes-end .result) (omega arith) (omega arith), ← c .before .before .byte-at .ensures, ne-eqb _ _ (c .before .if1 .left), ne-eqb _ _ (c .if2 .left))
 
 pub raw-opening-spec : {M : Type 1} → statement M
 raw-opening-spec =
-    tie.close
-    (tie.spec
-    hashes-end-requires
-    sub-hashes
-    byte-at-requires
-    add-string-opening
-    add-string-opening-2
-    string-opening-requires
-    returns
-    returns-2
-    returns-3)
+    tie.close (tie.spec hashes-end-requires sub-hashes byte-at-requires add-string-opening add-string-opening-2
+    string-opening-requires returns returns-2 returns-3)

@@ -1,12 +1,8 @@
-use native.Mathlib.Omega.{arith}
+-- made by tools/proof.py from answers/runs/is_number_byte (answers 57c74c815b5d, proof dc608c37be3f): edit that file, not this one
 use borrow.Author.Tests.{eq-eqb, ne-eqb}
 use Rattle.text.specs.Bytes.{isNumberByte}
-use borrow.Author.Needs.{needs}
 use Rattle.lexer.proofs.runs.is_number_byte.Statement.{statement}
 use Rattle.lexer.proofs.runs.is_number_byte.Tie as tie
-use Rattle.lexer.proofs.runs.is_number_byte.Reads as reads
-use Rattle.lexer.proofs.runs.is_number_byte.Lts as lts
-use Rattle.lexer.proofs.runs.is_word_byte.Reads as is-word-byte-reads
 
 returns : tie.Need-returns
 unfolding isNumberByte
@@ -24,4 +20,5 @@ unfolding isNumberByte
 returns-3 c = rw (ne-eqb _ _ (c .before .before .if1 .left), ne-eqb _ _ (c .before .if2 .left)) (c .is-word-byte .ensures)
 
 pub is-number-byte-spec : {M : Type 1} → statement M
-is-number-byte-spec = tie.close (tie.spec returns returns-2 is-word-byte-requires returns-3)
+is-number-byte-spec =
+    tie.close (tie.spec returns returns-2 is-word-byte-requires returns-3)

@@ -1,13 +1,10 @@
+-- made by tools/proof.py from answers/runs/is_word_byte (answers 9676f648bbf6, proof bcf84584a24c): edit that file, not this one
 use native.Mathlib.Omega.{arith}
 use mathlib.Core.Path.{sym, _∙_}
 use borrow.Author.Tests.{le-leb, lt-leb}
 use Rattle.text.proofs.ClassLaws.{isWordClass, word-class}
-use borrow.Author.Needs.{needs}
 use Rattle.lexer.proofs.runs.is_word_byte.Statement.{statement}
 use Rattle.lexer.proofs.runs.is_word_byte.Tie as tie
-use Rattle.lexer.proofs.runs.is_word_byte.Reads as reads
-use Rattle.lexer.proofs.runs.is_word_byte.Lts as lts
-use Rattle.text.proofs.bytes.class_of.Reads as class-of-reads
 
 class-of-requires : tie.Need-class-of-requires
 class-of-requires c κs = c .pre
@@ -21,4 +18,5 @@ unfolding isWordClass
 returns-2 c = rw (word-class (c .before .before .args .b) (omega arith), ← c .before .class-of .ensures, le-leb 1 _ (c .if1 .left))
 
 pub is-word-byte-spec : {M : Type 1} → statement M
-is-word-byte-spec = tie.close (tie.spec class-of-requires returns returns-2)
+is-word-byte-spec =
+    tie.close (tie.spec class-of-requires returns returns-2)

@@ -1,3 +1,4 @@
+-- made by tools/proof.py from answers/runs/word_end (answers 4f53a183456d, proof e59bb72c2042): edit that file, not this one
 use borrow.Author.Needs.{needs}
 use native.Mathlib.Omega.{arith}
 use mathlib.Core.Path.{_≡_, refl, sym, ap, _∙_}
@@ -8,9 +9,6 @@ use Rattle.text.specs.Bytes.{front, isWordByte}
 use Rattle.lexer.proofs.RunLaws.{run-more, run-stop, run-done}
 use Rattle.lexer.proofs.runs.word_end.Statement.{statement}
 use Rattle.lexer.proofs.runs.word_end.Tie as tie
-use Rattle.lexer.proofs.runs.word_end.Reads as reads
-use Rattle.lexer.proofs.runs.word_end.Lts as lts
-use Rattle.lexer.proofs.runs.is_word_byte.Reads as is-word-byte-reads
 
 abbrev Inv-loop : tie.InvT-loop
 Inv-loop classes text from i₀ i = from + front isWordByte (drop from text) ≡ i + front isWordByte (drop i text)
@@ -28,7 +26,9 @@ is-word-byte-requires : tie.Need-is-word-byte-requires Inv-loop μ-loop
 is-word-byte-requires c κs = c .before .before .before .before .pre
 
 returns : tie.Need-returns Inv-loop μ-loop
-returns c = sym (c .before .before .before .before .loop .inv ∙ run-stop isWordByte (c .before .before .before .before .before .before .args .text .now) (c .before .before .before .before .loop .i) (omega arith) (sym (c .before .is-word-byte .ensures) ∙ not-true _ (c .if1 .taken)))
+returns c =
+    let the-loop = c .before .before .before .before .loop in
+    sym (the-loop .inv ∙ run-stop isWordByte (c .before .before .before .before .before .before .args .text .now) (the-loop .i) (omega arith) (sym (c .before .is-word-byte .ensures) ∙ not-true _ (c .if1 .taken)))
 
 add-i : tie.Need-add-i Inv-loop μ-loop
 add-i c = omega arith
@@ -37,22 +37,14 @@ loop-less : tie.Need-loop-less Inv-loop μ-loop
 loop-less c = omega arith
 
 loop-again : tie.Need-loop-again Inv-loop μ-loop
-loop-again c = c .before .before .before .before .loop .inv ∙ run-more isWordByte (c .before .before .before .before .before .before .args .text .now) (c .before .before .before .before .loop .i) (omega arith) (sym (c .before .is-word-byte .ensures) ∙ not-false _ (c .if1 .left))
+loop-again c =
+    let the-loop = c .before .before .before .before .loop in
+    the-loop .inv ∙ run-more isWordByte (c .before .before .before .before .before .before .args .text .now) (the-loop .i) (omega arith) (sym (c .before .is-word-byte .ensures) ∙ not-false _ (c .if1 .left))
 
 returns-2 : tie.Need-returns-2 Inv-loop μ-loop
 returns-2 c = sym (c .before .loop .inv ∙ run-done isWordByte (c .before .before .before .args .text .now) (c .before .loop .i) (omega arith))
 
 pub word-end-spec : {M : Type 1} → statement M
 word-end-spec =
-    tie.close
-    (tie.spec
-    Inv-loop
-    μ-loop
-    loop-holds
-    shared-slice-read-is-word-byte
-    is-word-byte-requires
-    returns
-    add-i
-    loop-less
-    loop-again
-    returns-2)
+    tie.close (tie.spec Inv-loop μ-loop loop-holds shared-slice-read-is-word-byte is-word-byte-requires returns add-i
+    loop-less loop-again returns-2)

@@ -1,11 +1,9 @@
-use native.Mathlib.Omega.{arith}
+-- made by tools/proof.py from answers/token/holds_content (answers 7d8b3904cb44, proof ef94a3f1a985): edit that file, not this one
+use borrow.Author.Needs.{needs}
 use mathlib.Core.Path.{sym, ap}
 use Rattle.lexer.specs.Internal.{holdsContent}
-use borrow.Author.Needs.{needs}
 use Rattle.lexer.proofs.token.holds_content.Statement.{statement}
 use Rattle.lexer.proofs.token.holds_content.Tie as tie
-use Rattle.lexer.proofs.token.holds_content.Reads as reads
-use Rattle.lexer.proofs.token.holds_content.Lts as lts
 
 enum-told : tie.Need-enum-told
 enum-told c = search needs
@@ -51,17 +49,5 @@ returns-6 c = sym (ap holdsContent (c .enum-told6 .given .1))
 
 pub holds-content-spec : {M : Type 1} → statement M
 holds-content-spec =
-    tie.close
-    (tie.spec
-    enum-told
-    enum-told-2
-    enum-told-3
-    enum-told-4
-    enum-told-5
-    enum-told-6
-    returns
-    returns-2
-    returns-3
-    returns-4
-    returns-5
-    returns-6)
+    tie.close (tie.spec enum-told enum-told-2 enum-told-3 enum-told-4 enum-told-5 enum-told-6 returns returns-2
+    returns-3 returns-4 returns-5 returns-6)

@@ -1,16 +1,13 @@
+-- made by tools/proof.py from answers/token/part_of (answers ad29288bf983, proof 15b23ae6fa0a): edit that file, not this one
+use borrow.Author.Needs.{needs}
 use native.Mathlib.Omega.{arith}
 use mathlib.Core.Path.{sym, ap, _∙_}
 use Prim.Native.Nat.{ℕ}
 use lib.ListN.{length}
 use Rattle.lexer.specs.Opening.{openingOf, openedPart, partOf}
 use Rattle.lexer.proofs.OpeningLaws.{head-within}
-use borrow.Author.Needs.{needs}
 use Rattle.lexer.proofs.token.part_of.Statement.{statement}
 use Rattle.lexer.proofs.token.part_of.Tie as tie
-use Rattle.lexer.proofs.token.part_of.Reads as reads
-use Rattle.lexer.proofs.token.part_of.Lts as lts
-use Rattle.lexer.proofs.opening.opening_of.Reads as opening-of-reads
-use Rattle.lexer.proofs.token.word_part.Reads as word-part-reads
 
 opening-of-requires : tie.Need-opening-of-requires
 opening-of-requires c κs = search needs
@@ -19,10 +16,15 @@ enum-known-head : tie.Need-enum-known-head
 enum-known-head c = search needs
 
 sub-t9 : tie.Need-sub-t9
-sub-t9 c = let w = head-within (c .before .before .before .before .before .args .sw) (c .before .before .before .before .before .args .token .now) (c .before .head .given .0 .0) (sym (c .before .before .before .opening-of .ensures) ∙ c .before .head .given .1) in omega arith
+sub-t9 c =
+    let the-args = c .before .before .before .before .before .args in
+    let w = head-within (the-args .sw) (the-args .token .now) (c .before .head .given .0 .0) (sym (c .before .before .before .opening-of .ensures) ∙ c .before .head .given .1) in omega arith
 
 sub-t10 : tie.Need-sub-t10
-sub-t10 c = let w = head-within (c .before .before .before .before .before .before .args .sw) (c .before .before .before .before .before .before .args .token .now) (c .before .before .head .given .0 .0) (sym (c .before .before .before .before .opening-of .ensures) ∙ c .before .before .head .given .1) in omega arith
+sub-t10 c =
+    let the-args = c .before .before .before .before .before .before .args in
+    let the-head = c .before .before .head in
+    let w = head-within (the-args .sw) (the-args .token .now) (the-head .given .0 .0) (sym (c .before .before .before .before .opening-of .ensures) ∙ the-head .given .1) in omega arith
 
 enum-told : tie.Need-enum-told
 enum-told c = search needs
@@ -50,16 +52,5 @@ returns-3 c = c .word-part2 .ensures ∙ sym (ap (openedPart (length (c .before 
 
 pub part-of-spec : {M : Type 1} → statement M
 part-of-spec =
-    tie.close
-    (tie.spec
-    opening-of-requires
-    enum-known-head
-    sub-t9
-    sub-t10
-    enum-told
-    word-part-requires
-    enum-told-2
-    word-part-requires-2
-    returns
-    returns-2
-    returns-3)
+    tie.close (tie.spec opening-of-requires enum-known-head sub-t9 sub-t10 enum-told word-part-requires enum-told-2
+    word-part-requires-2 returns returns-2 returns-3)

@@ -1,3 +1,4 @@
+-- made by tools/proof.py from answers/compare/front_apart (answers 20836cbe1cc8, proof b53f9f0cfe3f): edit that file, not this one
 use borrow.Author.Needs.{needs}
 use native.Mathlib.Omega.{arith}
 use Prim.Native.Nat.{_-_}
@@ -5,9 +6,6 @@ use lib.ListN.{length}
 use Rattle.literals.proofs.PairLaws.{Alike, alike-start, alike-more, alike-apart, front-unknown}
 use Rattle.literals.proofs.compare.front_apart.Statement.{statement}
 use Rattle.literals.proofs.compare.front_apart.Tie as tie
-use Rattle.literals.proofs.compare.front_apart.Reads as reads
-use Rattle.literals.proofs.compare.front_apart.Lts as lts
-use Rattle.literals.proofs.compare.tells.Reads as tells-reads
 
 abbrev Inv-loop : tie.InvT-loop
 Inv-loop a b i₀ i = Alike a b i
@@ -50,18 +48,5 @@ returns-4 c = front-unknown _ _
 
 pub front-apart-spec : {M : Type 1} → statement M
 front-apart-spec =
-    tie.close
-    (tie.spec
-    Inv-loop
-    μ-loop
-    loop-holds
-    returns
-    shared-slice-read-x
-    shared-slice-read-y
-    tells-requires
-    returns-2
-    returns-3
-    add-i
-    loop-less
-    loop-again
-    returns-4)
+    tie.close (tie.spec Inv-loop μ-loop loop-holds returns shared-slice-read-x shared-slice-read-y tells-requires
+    returns-2 returns-3 add-i loop-less loop-again returns-4)

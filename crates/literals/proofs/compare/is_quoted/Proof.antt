@@ -1,10 +1,8 @@
-use native.Mathlib.Omega.{arith}
-use Rattle.literals.proofs.PairLaws.{not-quoted}
+-- made by tools/proof.py from answers/compare/is_quoted (answers f18be921dacb, proof 7b82530d9c37): edit that file, not this one
 use borrow.Author.Needs.{needs}
+use Rattle.literals.proofs.PairLaws.{not-quoted}
 use Rattle.literals.proofs.compare.is_quoted.Statement.{statement}
 use Rattle.literals.proofs.compare.is_quoted.Tie as tie
-use Rattle.literals.proofs.compare.is_quoted.Reads as reads
-use Rattle.literals.proofs.compare.is_quoted.Lts as lts
 
 enum-told : tie.Need-enum-told
 enum-told c = search needs
@@ -32,5 +30,4 @@ returns-4 c = not-quoted _
 
 pub is-quoted-spec : {M : Type 1} → statement M
 is-quoted-spec =
-    tie.close
-    (tie.spec enum-told enum-told-2 enum-told-3 enum-told-4 returns returns-2 returns-3 returns-4)
+    tie.close (tie.spec enum-told enum-told-2 enum-told-3 enum-told-4 returns returns-2 returns-3 returns-4)

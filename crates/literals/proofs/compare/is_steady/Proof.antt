@@ -1,10 +1,8 @@
-use native.Mathlib.Omega.{arith}
-use Rattle.literals.proofs.PairLaws.{steady-quoted, steady-raw, steady-word, steady-unknown}
+-- made by tools/proof.py from answers/compare/is_steady (answers 6728cacca4e7, proof bb68ef33c7a8): edit that file, not this one
 use borrow.Author.Needs.{needs}
+use Rattle.literals.proofs.PairLaws.{steady-quoted, steady-raw, steady-word, steady-unknown}
 use Rattle.literals.proofs.compare.is_steady.Statement.{statement}
 use Rattle.literals.proofs.compare.is_steady.Tie as tie
-use Rattle.literals.proofs.compare.is_steady.Reads as reads
-use Rattle.literals.proofs.compare.is_steady.Lts as lts
 
 enum-told : tie.Need-enum-told
 enum-told c = search needs
@@ -32,5 +30,4 @@ returns-4 c = steady-word (c .enum-told4 .given .1)
 
 pub is-steady-spec : {M : Type 1} → statement M
 is-steady-spec =
-    tie.close
-    (tie.spec enum-told enum-told-2 enum-told-3 enum-told-4 returns returns-2 returns-3 returns-4)
+    tie.close (tie.spec enum-told enum-told-2 enum-told-3 enum-told-4 returns returns-2 returns-3 returns-4)

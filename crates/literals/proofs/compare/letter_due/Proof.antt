@@ -1,12 +1,9 @@
-use borrow.Author.Needs.{needs}
-use native.Mathlib.Omega.{arith}
+-- made by tools/proof.py from answers/compare/letter_due (answers bdbddd951858, proof df7a467a371b): edit that file, not this one
 use mathlib.Core.Path.{sym}
 use borrow.Author.Tests.{eq-eqb, ne-eqb}
 use Rattle.literals.specs.InternalContent.{letterDue}
 use Rattle.literals.proofs.compare.letter_due.Statement.{statement}
 use Rattle.literals.proofs.compare.letter_due.Tie as tie
-use Rattle.literals.proofs.compare.letter_due.Reads as reads
-use Rattle.literals.proofs.compare.letter_due.Lts as lts
 
 returns : tie.Need-returns
 unfolding letterDue
@@ -25,4 +22,5 @@ unfolding letterDue
 returns-4 c = rw (ne-eqb _ _ (c .before .before .if1 .left), ne-eqb _ _ (c .before .if2 .left), ne-eqb _ _ (c .if3 .left))
 
 pub letter-due-spec : {M : Type 1} → statement M
-letter-due-spec = tie.close (tie.spec returns returns-2 returns-3 returns-4)
+letter-due-spec =
+    tie.close (tie.spec returns returns-2 returns-3 returns-4)

@@ -1,13 +1,11 @@
+-- made by tools/proof.py from answers/compare/next_due (answers fc65503f9b08, proof 7e263d1e5532): edit that file, not this one
+use borrow.Author.Needs.{needs}
 use native.Mathlib.Omega.{arith}
 use mathlib.Core.Path.{sym}
 use borrow.Author.Tests.{eq-eqb, ne-eqb}
 use Rattle.literals.specs.InternalContent.{nextDue}
-use borrow.Author.Needs.{needs}
 use Rattle.literals.proofs.compare.next_due.Statement.{statement}
 use Rattle.literals.proofs.compare.next_due.Tie as tie
-use Rattle.literals.proofs.compare.next_due.Reads as reads
-use Rattle.literals.proofs.compare.next_due.Lts as lts
-use Rattle.literals.proofs.compare.letter_due.Reads as letter-due-reads
 
 returns : tie.Need-returns
 unfolding nextDue

@@ -1,12 +1,8 @@
-use native.Mathlib.Omega.{arith}
-use Rattle.literals.proofs.PairLaws.{apart-unknown, apart-front}
+-- made by tools/proof.py from answers/compare/plainly_apart (answers 6f797bba6da7, proof 5415f08c29db): edit that file, not this one
 use borrow.Author.Needs.{needs}
+use Rattle.literals.proofs.PairLaws.{apart-unknown, apart-front}
 use Rattle.literals.proofs.compare.plainly_apart.Statement.{statement}
 use Rattle.literals.proofs.compare.plainly_apart.Tie as tie
-use Rattle.literals.proofs.compare.plainly_apart.Reads as reads
-use Rattle.literals.proofs.compare.plainly_apart.Lts as lts
-use Rattle.literals.proofs.compare.front_apart.Reads as front-apart-reads
-use Rattle.literals.proofs.compare.is_steady.Reads as is-steady-reads
 
 is-steady-requires : tie.Need-is-steady-requires
 is-steady-requires c κs = search needs
@@ -28,11 +24,4 @@ returns-3 c = apart-unknown _ _ _ _
 
 pub plainly-apart-spec : {M : Type 1} → statement M
 plainly-apart-spec =
-    tie.close
-    (tie.spec
-    is-steady-requires
-    is-steady-requires-2
-    front-apart-requires
-    returns
-    returns-2
-    returns-3)
+    tie.close (tie.spec is-steady-requires is-steady-requires-2 front-apart-requires returns returns-2 returns-3)

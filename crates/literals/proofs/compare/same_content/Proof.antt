@@ -1,3 +1,4 @@
+-- made by tools/proof.py from answers/compare/same_content (answers fdd74b15abd6, proof e74f8be16b6f): edit that file, not this one
 use borrow.Author.Needs.{needs}
 use native.Mathlib.Omega.{arith}
 use Rattle.literals.specs.InternalContent.{weight}
@@ -5,12 +6,6 @@ use Rattle.literals.proofs.CursorLaws.{Both, end-is, bad-is, byte-is, b
 use Rattle.literals.proofs.PairLaws.{apart-not}
 use Rattle.literals.proofs.compare.same_content.Statement.{statement}
 use Rattle.literals.proofs.compare.same_content.Tie as tie
-use Rattle.literals.proofs.compare.same_content.Reads as reads
-use Rattle.literals.proofs.compare.same_content.Lts as lts
-use Rattle.literals.proofs.compare.cursor_at.Reads as cursor-at-reads
-use Rattle.literals.proofs.compare.next_byte.Reads as next-byte-reads
-use Rattle.literals.proofs.compare.written_apart.Reads as written-apart-reads
-use Rattle.literals.proofs.decoder.start_of.Reads as start-of-reads
 
 abbrev Inv-loop : tie.InvT-loop
 Inv-loop sw a b left₀ right₀ left right = Both sw a b left₀ right₀ left right
@@ -37,7 +32,9 @@ cursor-at-requires-2 : tie.Need-cursor-at-requires-2 Inv-loop μ-loop
 cursor-at-requires-2 c κs = search needs
 
 loop-holds : tie.Need-loop-holds Inv-loop μ-loop
-loop-holds c = both-start (c .before .before .cursor-at .ensures) (c .cursor-at2 .ensures) (c .before .before .before .before .before .before .before .before .args .abody) (c .before .before .before .before .before .before .before .before .args .bbody) (c .before .before .before .start-of .ensures) (c .before .start-of2 .ensures)
+loop-holds c =
+    let the-args = c .before .before .before .before .before .before .before .before .args in
+    both-start (c .before .before .cursor-at .ensures) (c .cursor-at2 .ensures) (the-args .abody) (the-args .bbody) (c .before .before .before .start-of .ensures) (c .before .start-of2 .ensures)
 
 next-byte-requires : tie.Need-next-byte-requires Inv-loop μ-loop
 next-byte-requires c κs = c .loop .inv .one
@@ -52,7 +49,9 @@ enum-known-y : tie.Need-enum-known-y Inv-loop μ-loop
 enum-known-y c = search needs
 
 returns-2 : tie.Need-returns-2 Inv-loop μ-loop
-returns-2 c = both-differ (c .before .before .before .before .before .before .before .before .before .before .before .before .cursor-at .ensures) (c .before .before .before .before .before .before .before .before .before .before .cursor-at2 .ensures) (c .before .before .before .before .before .before .before .before .before .before .before .before .before .before .before .before .before .before .args .abody) (c .before .before .before .before .before .before .before .before .before .before .before .before .before .before .before .before .before .before .args .bbody) (c .before .before .before .before .before .before .before .before .before .before .before .before .before .start-of .ensures) (c .before .before .before .before .before .before .before .before .before .before .before .start-of2 .ensures) (c .before .before .before .before .before .before .before .before .before .loop .inv) (byte-is (c .before .before .before .before .before .before .x .given .1) (c .before .before .before .before .before .before .before .before .next-byte .ensures)) (byte-is (c .before .before .y .given .1) (c .before .before .before .before .next-byte2 .ensures)) (c .if2 .taken)
+returns-2 c =
+    let the-args = c .before .before .before .before .before .before .before .before .before .before .before .before .before .before .before .before .before .before .args in
+    both-differ (c .before .before .before .before .before .before .before .before .before .before .before .before .cursor-at .ensures) (c .before .before .before .before .before .before .before .before .before .before .cursor-at2 .ensures) (the-args .abody) (the-args .bbody) (c .before .before .before .before .before .before .before .before .before .before .before .before .before .start-of .ensures) (c .before .before .before .before .before .before .before .before .before .before .before .start-of2 .ensures) (c .before .before .before .before .before .before .before .before .before .loop .inv) (byte-is (c .before .before .before .before .before .before .x .given .1) (c .before .before .before .before .before .before .before .before .next-byte .ensures)) (byte-is (c .before .before .y .given .1) (c .before .before .before .before .next-byte2 .ensures)) (c .if2 .taken)
 
 loop-less : tie.Need-loop-less Inv-loop μ-loop
 loop-less c = let E = byte-is (c .before .before .before .before .before .before .x .given .1) (c .before .before .before .before .before .before .before .before .next-byte .ensures) in omega arith
@@ -64,13 +63,17 @@ enum-told : tie.Need-enum-told Inv-loop μ-loop
 enum-told c = search needs
 
 returns-3 : tie.Need-returns-3 Inv-loop μ-loop
-returns-3 c = both-long (c .before .before .before .before .before .before .before .before .before .before .cursor-at .ensures) (c .before .before .before .before .before .before .before .before .cursor-at2 .ensures) (c .before .before .before .before .before .before .before .before .before .before .before .before .before .before .before .before .args .abody) (c .before .before .before .before .before .before .before .before .before .before .before .before .before .before .before .before .args .bbody) (c .before .before .before .before .before .before .before .before .before .before .before .start-of .ensures) (c .before .before .before .before .before .before .before .before .before .start-of2 .ensures) (c .before .before .before .before .before .before .before .loop .inv) (byte-is (c .before .before .before .before .x .given .1) (c .before .before .before .before .before .before .next-byte .ensures)) (end-is (c .enum-told .given .1) (c .before .before .next-byte2 .ensures))
+returns-3 c =
+    let the-args = c .before .before .before .before .before .before .before .before .before .before .before .before .before .before .before .before .args in
+    both-long (c .before .before .before .before .before .before .before .before .before .before .cursor-at .ensures) (c .before .before .before .before .before .before .before .before .cursor-at2 .ensures) (the-args .abody) (the-args .bbody) (c .before .before .before .before .before .before .before .before .before .before .before .start-of .ensures) (c .before .before .before .before .before .before .before .before .before .start-of2 .ensures) (c .before .before .before .before .before .before .before .loop .inv) (byte-is (c .before .before .before .before .x .given .1) (c .before .before .before .before .before .before .next-byte .ensures)) (end-is (c .enum-told .given .1) (c .before .before .next-byte2 .ensures))
 
 enum-told-2 : tie.Need-enum-told-2 Inv-loop μ-loop
 enum-told-2 c = search needs
 
 returns-4 : tie.Need-returns-4 Inv-loop μ-loop
-returns-4 c = both-bad-2 (c .before .before .before .before .before .before .before .before .before .before .cursor-at .ensures) (c .before .before .before .before .before .before .before .before .cursor-at2 .ensures) (c .before .before .before .before .before .before .before .before .before .before .before .before .before .before .before .before .args .abody) (c .before .before .before .before .before .before .before .before .before .before .before .before .before .before .before .before .args .bbody) (c .before .before .before .before .before .before .before .before .before .before .before .start-of .ensures) (c .before .before .before .before .before .before .before .before .before .start-of2 .ensures) (c .before .before .before .before .before .before .before .loop .inv) (bad-is (c .enum-told2 .given .1) (c .before .before .next-byte2 .ensures))
+returns-4 c =
+    let the-args = c .before .before .before .before .before .before .before .before .before .before .before .before .before .before .before .before .args in
+    both-bad-2 (c .before .before .before .before .before .before .before .before .before .before .cursor-at .ensures) (c .before .before .before .before .before .before .before .before .cursor-at2 .ensures) (the-args .abody) (the-args .bbody) (c .before .before .before .before .before .before .before .before .before .before .before .start-of .ensures) (c .before .before .before .before .before .before .before .before .before .start-of2 .ensures) (c .before .before .before .before .before .before .before .loop .inv) (bad-is (c .enum-told2 .given .1) (c .before .before .next-byte2 .ensures))
 
 enum-told-3 : tie.Need-enum-told-3 Inv-loop μ-loop
 enum-told-3 c = search needs
@@ -82,57 +85,37 @@ enum-told-4 : tie.Need-enum-told-4 Inv-loop μ-loop
 enum-told-4 c = search needs
 
 returns-5 : tie.Need-returns-5 Inv-loop μ-loop
-returns-5 c = both-short (c .before .before .before .before .before .before .before .before .before .cursor-at .ensures) (c .before .before .before .before .before .before .before .cursor-at2 .ensures) (c .before .before .before .before .before .before .before .before .before .before .before .before .before .before .before .args .abody) (c .before .before .before .before .before .before .before .before .before .before .before .before .before .before .before .args .bbody) (c .before .before .before .before .before .before .before .before .before .before .start-of .ensures) (c .before .before .before .before .before .before .before .before .start-of2 .ensures) (c .before .before .before .before .before .before .loop .inv) (end-is (c .before .before .before .enum-told3 .given .1) (c .before .before .before .before .before .next-byte .ensures)) (byte-is (c .enum-told4 .given .1) (c .before .before .next-byte3 .ensures))
+returns-5 c =
+    let the-args = c .before .before .before .before .before .before .before .before .before .before .before .before .before .before .before .args in
+    both-short (c .before .before .before .before .before .before .before .before .before .cursor-at .ensures) (c .before .before .before .before .before .before .before .cursor-at2 .ensures) (the-args .abody) (the-args .bbody) (c .before .before .before .before .before .before .before .before .before .before .start-of .ensures) (c .before .before .before .before .before .before .before .before .start-of2 .ensures) (c .before .before .before .before .before .before .loop .inv) (end-is (c .before .before .before .enum-told3 .given .1) (c .before .before .before .before .before .next-byte .ensures)) (byte-is (c .enum-told4 .given .1) (c .before .before .next-byte3 .ensures))
 
 enum-told-5 : tie.Need-enum-told-5 Inv-loop μ-loop
 enum-told-5 c = search needs
 
 returns-6 : tie.Need-returns-6 Inv-loop μ-loop
-returns-6 c = both-end (c .before .before .before .before .before .before .before .before .before .cursor-at .ensures) (c .before .before .before .before .before .before .before .cursor-at2 .ensures) (c .before .before .before .before .before .before .before .before .before .before .before .before .before .before .before .args .abody) (c .before .before .before .before .before .before .before .before .before .before .before .before .before .before .before .args .bbody) (c .before .before .before .before .before .before .before .before .before .before .start-of .ensures) (c .before .before .before .before .before .before .before .before .start-of2 .ensures) (c .before .before .before .before .before .before .loop .inv) (end-is (c .before .before .before .enum-told3 .given .1) (c .before .before .before .before .before .next-byte .ensures)) (end-is (c .enum-told5 .given .1) (c .before .before .next-byte3 .ensures))
+returns-6 c =
+    let the-args = c .before .before .before .before .before .before .before .before .before .before .before .before .before .before .before .args in
+    both-end (c .before .before .before .before .before .before .before .before .before .cursor-at .ensures) (c .before .before .before .before .before .before .before .cursor-at2 .ensures) (the-args .abody) (the-args .bbody) (c .before .before .before .before .before .before .before .before .before .before .start-of .ensures) (c .before .before .before .before .before .before .before .before .start-of2 .ensures) (c .before .before .before .before .before .before .loop .inv) (end-is (c .before .before .before .enum-told3 .given .1) (c .before .before .before .before .before .next-byte .ensures)) (end-is (c .enum-told5 .given .1) (c .before .before .next-byte3 .ensures))
 
 enum-told-6 : tie.Need-enum-told-6 Inv-loop μ-loop
 enum-told-6 c = search needs
 
 returns-7 : tie.Need-returns-7 Inv-loop μ-loop
-returns-7 c = both-bad-2 (c .before .before .before .before .before .before .before .before .before .cursor-at .ensures) (c .before .before .before .before .before .before .before .cursor-at2 .ensures) (c .before .before .before .before .before .before .before .before .before .before .before .before .before .before .before .args .abody) (c .before .before .before .before .before .before .before .before .before .before .before .before .before .before .before .args .bbody) (c .before .before .before .before .before .before .before .before .before .before .start-of .ensures) (c .before .before .before .before .before .before .before .before .start-of2 .ensures) (c .before .before .before .before .before .before .loop .inv) (bad-is (c .enum-told6 .given .1) (c .before .before .next-byte3 .ensures))
+returns-7 c =
+    let the-args = c .before .before .before .before .before .before .before .before .before .before .before .before .before .before .before .args in
+    both-bad-2 (c .before .before .before .before .before .before .before .before .before .cursor-at .ensures) (c .before .before .before .before .before .before .before .cursor-at2 .ensures) (the-args .abody) (the-args .bbody) (c .before .before .before .before .before .before .before .before .before .before .start-of .ensures) (c .before .before .before .before .before .before .before .before .start-of2 .ensures) (c .before .before .before .before .before .before .loop .inv) (bad-is (c .enum-told6 .given .1) (c .before .before .next-byte3 .ensures))
 
 enum-told-7 : tie.Need-enum-told-7 Inv-loop μ-loop
 enum-told-7 c = search needs
 
 returns-8 : tie.Need-returns-8 Inv-loop μ-loop
-returns-8 c = both-bad (c .before .before .before .before .before .before .cursor-at .ensures) (c .before .before .before .before .cursor-at2 .ensures) (c .before .before .before .before .before .before .before .before .before .before .before .before .args .abody) (c .before .before .before .before .before .before .before .before .before .before .before .before .args .bbody) (c .before .before .before .before .before .before .before .start-of .ensures) (c .before .before .before .before .before .start-of2 .ensures) (c .before .before .before .loop .inv) (bad-is (c .enum-told7 .given .1) (c .before .before .next-byte .ensures))
+returns-8 c =
+    let the-args = c .before .before .before .before .before .before .before .before .before .before .before .before .args in
+    both-bad (c .before .before .before .before .before .before .cursor-at .ensures) (c .before .before .before .before .cursor-at2 .ensures) (the-args .abody) (the-args .bbody) (c .before .before .before .before .before .before .before .start-of .ensures) (c .before .before .before .before .before .start-of2 .ensures) (c .before .before .before .loop .inv) (bad-is (c .enum-told7 .given .1) (c .before .before .next-byte .ensures))
 
 pub same-content-spec : {M : Type 1} → statement M
 same-content-spec =
-    tie.close
-    (tie.spec
-    Inv-loop
-    μ-loop
-    written-apart-requires
-    returns
-    start-of-requires
-    cursor-at-requires
-    start-of-requires-2
-    cursor-at-requires-2
-    loop-holds
-    next-byte-requires
-    enum-known-x
-    next-byte-requires-2
-    enum-known-y
-    returns-2
-    loop-less
-    loop-again
-    enum-told
-    returns-3
-    enum-told-2
-    returns-4
-    enum-told-3
-    next-byte-requires-3
-    enum-told-4
-    returns-5
-    enum-told-5
-    returns-6
-    enum-told-6
-    returns-7
-    enum-told-7
-    returns-8)
+    tie.close (tie.spec Inv-loop μ-loop written-apart-requires returns start-of-requires cursor-at-requires
+    start-of-requires-2 cursor-at-requires-2 loop-holds next-byte-requires enum-known-x next-byte-requires-2
+    enum-known-y returns-2 loop-less loop-again enum-told returns-3 enum-told-2 returns-4 enum-told-3
+    next-byte-requires-3 enum-told-4 returns-5 enum-told-5 returns-6 enum-told-6 returns-7 enum-told-7 returns-8)

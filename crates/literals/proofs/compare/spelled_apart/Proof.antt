@@ -1,3 +1,4 @@
+-- made by tools/proof.py from answers/compare/spelled_apart (answers b11f170eea0a, proof 6fd6887f61e8): edit that file, not this one
 use borrow.Author.Needs.{needs}
 use native.Mathlib.Omega.{arith}
 use Prim.Native.Nat.{_-_}
@@ -5,10 +6,6 @@ use lib.ListN.{length}
 use Rattle.literals.proofs.SpellingLaws.{Spelled, spelled-start, spelled-more, spelled-told, spelled-unknown}
 use Rattle.literals.proofs.compare.spelled_apart.Statement.{statement}
 use Rattle.literals.proofs.compare.spelled_apart.Tie as tie
-use Rattle.literals.proofs.compare.spelled_apart.Reads as reads
-use Rattle.literals.proofs.compare.spelled_apart.Lts as lts
-use Rattle.literals.proofs.compare.next_due.Reads as next-due-reads
-use Rattle.literals.proofs.compare.tells.Reads as tells-reads
 
 abbrev Inv-loop : tie.InvT-loop
 Inv-loop a b i₀ due₀ i due = Spelled a b i due
@@ -51,18 +48,5 @@ returns-3 c = spelled-unknown _ _
 
 pub spelled-apart-spec : {M : Type 1} → statement M
 spelled-apart-spec =
-    tie.close
-    (tie.spec
-    Inv-loop
-    μ-loop
-    loop-holds
-    returns
-    shared-slice-read-x
-    shared-slice-read-y
-    tells-requires
-    returns-2
-    next-due-requires
-    add-i
-    loop-less
-    loop-again
-    returns-3)
+    tie.close (tie.spec Inv-loop μ-loop loop-holds returns shared-slice-read-x shared-slice-read-y tells-requires
+    returns-2 next-due-requires add-i loop-less loop-again returns-3)

@@ -1,15 +1,8 @@
-use native.Mathlib.Omega.{arith}
-use Rattle.literals.proofs.PairLaws.{apart-unknown, apart-verbatim, apart-spelled, apart-yes}
+-- made by tools/proof.py from answers/compare/written_apart (answers 0911c25fab86, proof 881c4a3b0514): edit that file, not this one
 use borrow.Author.Needs.{needs}
+use Rattle.literals.proofs.PairLaws.{apart-unknown, apart-verbatim, apart-spelled, apart-yes}
 use Rattle.literals.proofs.compare.written_apart.Statement.{statement}
 use Rattle.literals.proofs.compare.written_apart.Tie as tie
-use Rattle.literals.proofs.compare.written_apart.Reads as reads
-use Rattle.literals.proofs.compare.written_apart.Lts as lts
-use Rattle.literals.proofs.compare.is_quoted.Reads as is-quoted-reads
-use Rattle.literals.proofs.compare.is_verbatim.Reads as is-verbatim-reads
-use Rattle.literals.proofs.compare.plainly_apart.Reads as plainly-apart-reads
-use Rattle.literals.proofs.compare.spelled_apart.Reads as spelled-apart-reads
-use Rattle.text.proofs.bytes.same_bytes.Reads as same-bytes-reads
 
 is-verbatim-requires : tie.Need-is-verbatim-requires
 is-verbatim-requires c κs = search needs
@@ -49,17 +42,5 @@ returns-5 c = apart-unknown _ _ _ _
 
 pub written-apart-spec : {M : Type 1} → statement M
 written-apart-spec =
-    tie.close
-    (tie.spec
-    is-verbatim-requires
-    is-verbatim-requires-2
-    same-bytes-requires
-    returns
-    plainly-apart-requires
-    returns-2
-    is-quoted-requires
-    is-quoted-requires-2
-    spelled-apart-requires
-    returns-3
-    returns-4
-    returns-5)
+    tie.close (tie.spec is-verbatim-requires is-verbatim-requires-2 same-bytes-requires returns plainly-apart-requires
+    returns-2 is-quoted-requires is-quoted-requires-2 spelled-apart-requires returns-3 returns-4 returns-5)

@@ -1,3 +1,4 @@
+-- made by tools/proof.py from answers/content/fill_front (answers 271cf69440ef, proof 3ec0791bea5d): edit that file, not this one
 use borrow.Author.Needs.{needs}
 use native.Mathlib.Omega.{arith}
 use Prim.Native.Nat.{_-_}
@@ -5,12 +6,6 @@ use lib.ListN.{length}
 use Rattle.literals.proofs.FillLaws.{Filled, fill-start, fill-room, fill-turn, fill-end}
 use Rattle.literals.proofs.content.fill_front.Statement.{statement}
 use Rattle.literals.proofs.content.fill_front.Tie as tie
-use Rattle.literals.proofs.content.fill_front.Reads as reads
-use Rattle.literals.proofs.content.fill_front.Lts as lts
-use Rattle.literals.proofs.decoder.decode_step.Reads as decode-step-reads
-use Rattle.literals.proofs.decoder.start_of.Reads as start-of-reads
-use Rattle.text.proofs.few.few_len.Reads as few-len-reads
-use Rattle.text.proofs.few.put_few.Reads as put-few-reads
 
 abbrev Inv-loop : tie.InvT-loop
 Inv-loop sw s out₀ state₀ filled₀ i₀ out state filled i = Filled sw state₀ s out₀ out state filled i
@@ -37,7 +32,9 @@ few-len-requires : tie.Need-few-len-requires Inv-loop μ-loop
 few-len-requires c κs = search needs
 
 add-filled : tie.Need-add-filled Inv-loop μ-loop
-add-filled c = let r = fill-room (c .before .before .before .before .before .before .before .before .loop .inv) (c .before .before .before .before .before .decode-step .result) (omega arith) (c .before .before .before .before .before .decode-step .ensures) in omega arith
+add-filled c =
+    let the-decode-step = c .before .before .before .before .before .decode-step in
+    let r = fill-room (c .before .before .before .before .before .before .before .before .loop .inv) (the-decode-step .result) (omega arith) (the-decode-step .ensures) in omega arith
 
 add-i : tie.Need-add-i Inv-loop μ-loop
 add-i c = omega arith
@@ -46,7 +43,9 @@ loop-less : tie.Need-loop-less Inv-loop μ-loop
 loop-less c = omega arith
 
 loop-again : tie.Need-loop-again Inv-loop μ-loop
-loop-again c = fill-turn (c .before .before .before .before .before .before .before .before .loop .inv) (c .before .before .before .before .before .decode-step .result) (omega arith) (c .before .before .before .before .before .decode-step .ensures) _ _ (c .before .before .before .put-few .ensures) (c .few-len .ensures)
+loop-again c =
+    let the-decode-step = c .before .before .before .before .before .decode-step in
+    fill-turn (c .before .before .before .before .before .before .before .before .loop .inv) (the-decode-step .result) (omega arith) (the-decode-step .ensures) _ _ (c .before .before .before .put-few .ensures) (c .few-len .ensures)
 
 same-length : tie.Need-same-length Inv-loop μ-loop
 same-length c = c .before .loop .inv .long
@@ -56,19 +55,5 @@ returns c = fill-end (c .before .loop .inv) (c .before .before .before .before .
 
 pub fill-front-spec : {M : Type 1} → statement M
 fill-front-spec =
-    tie.close
-    (tie.spec
-    Inv-loop
-    μ-loop
-    start-of-requires
-    loop-holds
-    shared-slice-read-decode-step
-    decode-step-requires
-    put-few-requires
-    few-len-requires
-    add-filled
-    add-i
-    loop-less
-    loop-again
-    same-length
-    returns)
+    tie.close (tie.spec Inv-loop μ-loop start-of-requires loop-holds shared-slice-read-decode-step decode-step-requires
+    put-few-requires few-len-requires add-filled add-i loop-less loop-again same-length returns)

@@ -1,3 +1,4 @@
+-- made by tools/proof.py from answers/content/measure_content (answers 21bf1d0b608d, proof 573aae9613c0): edit that file, not this one
 use borrow.Author.Needs.{needs}
 use native.Mathlib.Omega.{arith}
 use mathlib.Core.Path.{sym, _∙_}
@@ -7,15 +8,6 @@ use lib.ListN.{length}
 use Rattle.literals.proofs.TallyLaws.{Tallied, tally-skip, tally-room, tally-turn, tally-cut, tally-bytes, tally-text}
 use Rattle.literals.proofs.content.measure_content.Statement.{statement}
 use Rattle.literals.proofs.content.measure_content.Tie as tie
-use Rattle.literals.proofs.content.measure_content.Reads as reads
-use Rattle.literals.proofs.content.measure_content.Lts as lts
-use Rattle.literals.proofs.content.written_front.Reads as written-front-reads
-use Rattle.literals.proofs.decoder.decode_step.Reads as decode-step-reads
-use Rattle.literals.proofs.decoder.may_end.Reads as may-end-reads
-use Rattle.literals.proofs.decoder.start_of.Reads as start-of-reads
-use Rattle.text.proofs.few.feed_text.Reads as feed-text-reads
-use Rattle.text.proofs.few.few_len.Reads as few-len-reads
-use Rattle.text.proofs.utf8.is_whole.Reads as is-whole-reads
 
 abbrev Inv-loop : tie.InvT-loop
 Inv-loop sw is-text s from state₀ machine₀ size₀ i₀ state machine size i = Tallied sw is-text state₀ s state machine size i
@@ -54,7 +46,9 @@ loop-less : tie.Need-loop-less Inv-loop μ-loop
 loop-less c = omega arith
 
 loop-again : tie.Need-loop-again Inv-loop μ-loop
-loop-again c = tally-turn (c .before .before .before .before .before .loop .inv) (c .before .before .decode-step .result) (c .feed-text .result) (c .before .few-len .result) (omega arith) (c .before .before .decode-step .ensures) (c .feed-text .ensures) (c .before .few-len .ensures)
+loop-again c =
+    let the-decode-step = c .before .before .decode-step in
+    tally-turn (c .before .before .before .before .before .loop .inv) (the-decode-step .result) (c .feed-text .result) (c .before .few-len .result) (omega arith) (the-decode-step .ensures) (c .feed-text .ensures) (c .before .few-len .ensures)
 
 may-end-requires : tie.Need-may-end-requires Inv-loop μ-loop
 may-end-requires c κs = search needs
@@ -76,24 +70,6 @@ returns-4 c = tally-cut (c .before .before .before .loop .inv) (c .before .befor
 
 pub measure-content-spec : {M : Type 1} → statement M
 measure-content-spec =
-    tie.close
-    (tie.spec
-    Inv-loop
-    μ-loop
-    written-front-requires
-    start-of-requires
-    loop-holds
-    shared-slice-read-decode-step
-    decode-step-requires
-    few-len-requires
-    add-size
-    feed-text-requires
-    add-i
-    loop-less
-    loop-again
-    may-end-requires
-    is-whole-requires
-    returns
-    returns-2
-    returns-3
-    returns-4)
+    tie.close (tie.spec Inv-loop μ-loop written-front-requires start-of-requires loop-holds
+    shared-slice-read-decode-step decode-step-requires few-len-requires add-size feed-text-requires add-i loop-less
+    loop-again may-end-requires is-whole-requires returns returns-2 returns-3 returns-4)

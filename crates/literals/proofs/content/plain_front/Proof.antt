@@ -1,3 +1,4 @@
+-- made by tools/proof.py from answers/content/plain_front (answers cba86875562b, proof d82d953b263b): edit that file, not this one
 use borrow.Author.Needs.{needs}
 use native.Mathlib.Omega.{arith}
 use Prim.Native.Nat.{_-_}
@@ -6,8 +7,6 @@ use Rattle.literals.specs.InternalContent.{PlainFront}
 use Rattle.literals.proofs.PlainLaws.{plain-none, plain-more}
 use Rattle.literals.proofs.content.plain_front.Statement.{statement}
 use Rattle.literals.proofs.content.plain_front.Tie as tie
-use Rattle.literals.proofs.content.plain_front.Reads as reads
-use Rattle.literals.proofs.content.plain_front.Lts as lts
 
 abbrev Inv-loop : tie.InvT-loop
 Inv-loop s i₀ i = PlainFront s i
@@ -44,16 +43,5 @@ returns-4 c = c .before .loop .inv
 
 pub plain-front-spec : {M : Type 1} → statement M
 plain-front-spec =
-    tie.close
-    (tie.spec
-    Inv-loop
-    μ-loop
-    loop-holds
-    shared-slice-read-b
-    returns
-    returns-2
-    returns-3
-    add-i
-    loop-less
-    loop-again
-    returns-4)
+    tie.close (tie.spec Inv-loop μ-loop loop-holds shared-slice-read-b returns returns-2 returns-3 add-i loop-less
+    loop-again returns-4)

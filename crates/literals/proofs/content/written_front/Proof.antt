@@ -1,11 +1,8 @@
-use native.Mathlib.Omega.{arith}
-use Rattle.literals.proofs.PlainLaws.{written-quoted, written-raw, written-word, written-none}
+-- made by tools/proof.py from answers/content/written_front (answers f7f6508008bc, proof fc91104d3bb6): edit that file, not this one
 use borrow.Author.Needs.{needs}
+use Rattle.literals.proofs.PlainLaws.{written-quoted, written-raw, written-word, written-none}
 use Rattle.literals.proofs.content.written_front.Statement.{statement}
 use Rattle.literals.proofs.content.written_front.Tie as tie
-use Rattle.literals.proofs.content.written_front.Reads as reads
-use Rattle.literals.proofs.content.written_front.Lts as lts
-use Rattle.literals.proofs.content.plain_front.Reads as plain-front-reads
 
 enum-told : tie.Need-enum-told
 enum-told c = search needs
@@ -42,16 +39,5 @@ returns-4 c = written-word (c .before .enum-told4 .given .1) (c .plain-front3 .e
 
 pub written-front-spec : {M : Type 1} → statement M
 written-front-spec =
-    tie.close
-    (tie.spec
-    enum-told
-    plain-front-requires
-    enum-told-2
-    plain-front-requires-2
-    enum-told-3
-    enum-told-4
-    plain-front-requires-3
-    returns
-    returns-2
-    returns-3
-    returns-4)
+    tie.close (tie.spec enum-told plain-front-requires enum-told-2 plain-front-requires-2 enum-told-3 enum-told-4
+    plain-front-requires-3 returns returns-2 returns-3 returns-4)

@@ -1,14 +1,11 @@
+-- made by tools/proof.py from answers/decoder/base64_digit (answers ad29191c5d91, proof e96dadb98ad1): edit that file, not this one
+use borrow.Author.Needs.{needs}
 use native.Mathlib.Omega.{arith}
 use mathlib.Core.Path.{_∙_}
 use Rattle.literals.specs.Content.{base64Digit}
 use Rattle.literals.proofs.DecoderLaws.{base64-last, bits-one, bits-two, bits-last}
-use borrow.Author.Needs.{needs}
 use Rattle.literals.proofs.decoder.base64_digit.Statement.{statement}
 use Rattle.literals.proofs.decoder.base64_digit.Tie as tie
-use Rattle.literals.proofs.decoder.base64_digit.Reads as reads
-use Rattle.literals.proofs.decoder.base64_digit.Lts as lts
-use Rattle.literals.proofs.decoder.silent.Reads as silent-reads
-use Rattle.literals.proofs.decoder.single.Reads as single-reads
 
 silent-requires : tie.Need-silent-requires
 silent-requires c κs = search needs
@@ -57,19 +54,5 @@ returns-4 c = c .single3 .ensures ∙ base64-last _ _ _ (omega arith)
 
 pub base64-digit-spec : {M : Type 1} → statement M
 base64-digit-spec =
-    tie.close
-    (tie.spec
-    silent-requires
-    returns
-    mul-single
-    add-single
-    single-requires
-    returns-2
-    mul-single-2
-    add-single-2
-    single-requires-2
-    returns-3
-    mul-single-3
-    add-single-3
-    single-requires-3
-    returns-4)
+    tie.close (tie.spec silent-requires returns mul-single add-single single-requires returns-2 mul-single-2
+    add-single-2 single-requires-2 returns-3 mul-single-3 add-single-3 single-requires-3 returns-4)

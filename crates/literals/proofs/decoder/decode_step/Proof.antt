@@ -1,19 +1,9 @@
-use native.Mathlib.Omega.{arith}
+-- made by tools/proof.py from answers/decoder/decode_step (answers 0477685ff233, proof 2ec1e3c06c05): edit that file, not this one
+use borrow.Author.Needs.{needs}
 use Rattle.literals.specs.Content.{decodeStep}
 use Rattle.literals.specs.InternalContent.{Sound}
-use borrow.Author.Needs.{needs}
 use Rattle.literals.proofs.decoder.decode_step.Statement.{statement}
 use Rattle.literals.proofs.decoder.decode_step.Tie as tie
-use Rattle.literals.proofs.decoder.decode_step.Reads as reads
-use Rattle.literals.proofs.decoder.decode_step.Lts as lts
-use Rattle.literals.proofs.decoder.digits_step.Reads as digits-step-reads
-use Rattle.literals.proofs.decoder.escape_step.Reads as escape-step-reads
-use Rattle.literals.proofs.decoder.hex_step.Reads as hex-step-reads
-use Rattle.literals.proofs.decoder.pads_step.Reads as pads-step-reads
-use Rattle.literals.proofs.decoder.plain_step.Reads as plain-step-reads
-use Rattle.literals.proofs.decoder.raw_step.Reads as raw-step-reads
-use Rattle.literals.proofs.decoder.silent.Reads as silent-reads
-use Rattle.literals.proofs.decoder.single.Reads as single-reads
 
 enum-told : tie.Need-enum-told
 enum-told c = search needs
@@ -99,29 +89,7 @@ returns-8 c = rw (c .before .enum-told5 .given .1) (c .silent .ensures)
 
 pub decode-step-spec : {M : Type 1} → statement M
 decode-step-spec =
-    tie.close
-    (tie.spec
-    enum-told
-    plain-step-requires
-    enum-told-2
-    escape-step-requires
-    enum-known-state
-    hex-step-requires
-    enum-told-3
-    raw-step-requires
-    enum-told-4
-    single-requires
-    enum-known-state-2
-    digits-step-requires
-    enum-known-state-3
-    pads-step-requires
-    enum-told-5
-    silent-requires
-    returns
-    returns-2
-    returns-3
-    returns-4
-    returns-5
-    returns-6
-    returns-7
-    returns-8)
+    tie.close (tie.spec enum-told plain-step-requires enum-told-2 escape-step-requires enum-known-state
+    hex-step-requires enum-told-3 raw-step-requires enum-told-4 single-requires enum-known-state-2 digits-step-requires
+    enum-known-state-3 pads-step-requires enum-told-5 silent-requires returns returns-2 returns-3 returns-4 returns-5
+    returns-6 returns-7 returns-8)

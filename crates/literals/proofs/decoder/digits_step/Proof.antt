@@ -1,18 +1,11 @@
+-- made by tools/proof.py from answers/decoder/digits_step (answers d2a1580d6db1, proof 9b049b8e7274): edit that file, not this one
+use borrow.Author.Needs.{needs}
 use native.Mathlib.Omega.{arith}
 use borrow.Author.Tests.{lt-ltb, le-ltb, eq-eqb, ne-eqb}
 use Rattle.literals.specs.Content.{digitsStep}
 use Rattle.literals.proofs.DecoderLaws.{bits-few}
-use borrow.Author.Needs.{needs}
 use Rattle.literals.proofs.decoder.digits_step.Statement.{statement}
 use Rattle.literals.proofs.decoder.digits_step.Tie as tie
-use Rattle.literals.proofs.decoder.digits_step.Reads as reads
-use Rattle.literals.proofs.decoder.digits_step.Lts as lts
-use Rattle.literals.proofs.decoder.base64_digit.Reads as base64-digit-reads
-use Rattle.literals.proofs.decoder.is_space.Reads as is-space-reads
-use Rattle.literals.proofs.decoder.pad_step.Reads as pad-step-reads
-use Rattle.literals.proofs.decoder.sextet.Reads as sextet-reads
-use Rattle.literals.proofs.decoder.silent.Reads as silent-reads
-use Rattle.literals.proofs.decoder.whole_bytes.Reads as whole-bytes-reads
 
 is-space-requires : tie.Need-is-space-requires
 is-space-requires c κs = search needs
@@ -28,7 +21,9 @@ whole-bytes-requires : tie.Need-whole-bytes-requires
 whole-bytes-requires c κs = search needs
 
 sub-pad-step : tie.Need-sub-pad-step
-sub-pad-step c = let r = bits-few (c .before .before .before .before .before .args .phase) (c .before .before .before .before .before .args .rest) (c .before .before .before .before .before .pre) in omega arith
+sub-pad-step c =
+    let the-args = c .before .before .before .before .before .args in
+    let r = bits-few (the-args .phase) (the-args .rest) (c .before .before .before .before .before .pre) in omega arith
 
 pad-step-requires : tie.Need-pad-step-requires
 pad-step-requires c κs = search needs
@@ -63,19 +58,5 @@ returns-5 c = rw (← c .before .before .before .before .before .is-space .ensur
 
 pub digits-step-spec : {M : Type 1} → statement M
 digits-step-spec =
-    tie.close
-    (tie.spec
-    is-space-requires
-    silent-requires
-    returns
-    whole-bytes-requires
-    sub-pad-step
-    pad-step-requires
-    returns-2
-    silent-requires-2
-    returns-3
-    sextet-requires
-    base64-digit-requires
-    returns-4
-    silent-requires-3
-    returns-5)
+    tie.close (tie.spec is-space-requires silent-requires returns whole-bytes-requires sub-pad-step pad-step-requires
+    returns-2 silent-requires-2 returns-3 sextet-requires base64-digit-requires returns-4 silent-requires-3 returns-5)

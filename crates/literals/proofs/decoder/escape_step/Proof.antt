@@ -1,12 +1,9 @@
+-- made by tools/proof.py from answers/decoder/escape_step (answers 6c5985b72c33, proof b520f83a5eac): edit that file, not this one
+use borrow.Author.Needs.{needs}
 use borrow.Author.Tests.{eq-eqb, ne-eqb}
 use Rattle.literals.specs.Content.{escapeStep, escaped, oneLetter}
-use borrow.Author.Needs.{needs}
 use Rattle.literals.proofs.decoder.escape_step.Statement.{statement}
 use Rattle.literals.proofs.decoder.escape_step.Tie as tie
-use Rattle.literals.proofs.decoder.escape_step.Reads as reads
-use Rattle.literals.proofs.decoder.escape_step.Lts as lts
-use Rattle.literals.proofs.decoder.many_digits.Reads as many-digits-reads
-use Rattle.literals.proofs.decoder.single.Reads as single-reads
 
 single-requires : tie.Need-single-requires
 single-requires c κs = search needs
@@ -73,23 +70,6 @@ returns-9 c = rw (ne-eqb _ _ (c .before .before .before .before .before .before 
 
 pub escape-step-spec : {M : Type 1} → statement M
 escape-step-spec =
-    tie.close
-    (tie.spec
-    single-requires
-    returns
-    single-requires-2
-    returns-2
-    single-requires-3
-    returns-3
-    single-requires-4
-    returns-4
-    single-requires-5
-    returns-5
-    single-requires-6
-    returns-6
-    single-requires-7
-    returns-7
-    single-requires-8
-    returns-8
-    many-digits-requires
-    returns-9)
+    tie.close (tie.spec single-requires returns single-requires-2 returns-2 single-requires-3 returns-3
+    single-requires-4 returns-4 single-requires-5 returns-5 single-requires-6 returns-6 single-requires-7 returns-7
+    single-requires-8 returns-8 many-digits-requires returns-9)

@@ -1,16 +1,12 @@
+-- made by tools/proof.py from answers/decoder/hex_done (answers dda60ab2624a, proof bb3b4661a334): edit that file, not this one
+use borrow.Author.Needs.{needs}
 use native.Mathlib.Omega.{arith}
 use borrow.Author.Tests.{le-leb, lt-leb, lt-ltb, le-ltb}
 use Rattle.literals.specs.Content.{hexDone}
 use Rattle.text.specs.Utf8.{isScalar}
 use Rattle.literals.specs.InternalContent.{hexRoom}
-use borrow.Author.Needs.{needs}
 use Rattle.literals.proofs.decoder.hex_done.Statement.{statement}
 use Rattle.literals.proofs.decoder.hex_done.Tie as tie
-use Rattle.literals.proofs.decoder.hex_done.Reads as reads
-use Rattle.literals.proofs.decoder.hex_done.Lts as lts
-use Rattle.literals.proofs.decoder.scalar_done.Reads as scalar-done-reads
-use Rattle.literals.proofs.decoder.silent.Reads as silent-reads
-use Rattle.literals.proofs.decoder.single.Reads as single-reads
 
 cast-single : tie.Need-cast-single
 unfolding hexDone isScalar hexRoom
@@ -53,16 +49,5 @@ returns-5 c = rw (c .before .before .before .before .if1 .left, le-ltb _ _ (c .b
 
 pub hex-done-spec : {M : Type 1} → statement M
 hex-done-spec =
-    tie.close
-    (tie.spec
-    cast-single
-    single-requires
-    returns
-    scalar-done-requires
-    returns-2
-    silent-requires
-    returns-3
-    scalar-done-requires-2
-    returns-4
-    silent-requires-2
-    returns-5)
+    tie.close (tie.spec cast-single single-requires returns scalar-done-requires returns-2 silent-requires returns-3
+    scalar-done-requires-2 returns-4 silent-requires-2 returns-5)

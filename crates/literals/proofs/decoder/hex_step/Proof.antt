@@ -1,27 +1,27 @@
+-- made by tools/proof.py from answers/decoder/hex_step (answers 2d44f9d2f2cd, proof 55bd25a35360): edit that file, not this one
+use borrow.Author.Needs.{needs}
 use native.Mathlib.Omega.{arith}
 use borrow.Author.Tests.{lt-ltb, le-ltb}
 use Rattle.literals.specs.Content.{hexStep}
 use Rattle.literals.proofs.DecoderLaws.{room-small}
-use borrow.Author.Needs.{needs}
 use Rattle.literals.proofs.decoder.hex_step.Statement.{statement}
 use Rattle.literals.proofs.decoder.hex_step.Tie as tie
-use Rattle.literals.proofs.decoder.hex_step.Reads as reads
-use Rattle.literals.proofs.decoder.hex_step.Lts as lts
-use Rattle.literals.proofs.decoder.hex_digit.Reads as hex-digit-reads
-use Rattle.literals.proofs.decoder.silent.Reads as silent-reads
-use Rattle.text.proofs.bytes.digit_value.Reads as digit-value-reads
 
 digit-value-requires : tie.Need-digit-value-requires
 digit-value-requires c κs = search needs
 
 mul-hex-digit : tie.Need-mul-hex-digit
-mul-hex-digit c = let r = room-small (c .before .before .args .byte) (c .before .before .args .left) in omega arith
+mul-hex-digit c =
+    let the-args = c .before .before .args in
+    let r = room-small (the-args .byte) (the-args .left) in omega arith
 
 cast-hex-digit : tie.Need-cast-hex-digit
 cast-hex-digit c = omega arith
 
 add-hex-digit : tie.Need-add-hex-digit
-add-hex-digit c = let r = room-small (c .before .before .args .byte) (c .before .before .args .left) in omega arith
+add-hex-digit c =
+    let the-args = c .before .before .args in
+    let r = room-small (the-args .byte) (the-args .left) in omega arith
 
 hex-digit-requires : tie.Need-hex-digit-requires
 hex-digit-requires c κs = omega arith
@@ -39,13 +39,5 @@ returns-2 c = rw (← c .before .before .digit-value .ensures, le-ltb _ _ (c .be
 
 pub hex-step-spec : {M : Type 1} → statement M
 hex-step-spec =
-    tie.close
-    (tie.spec
-    digit-value-requires
-    mul-hex-digit
-    cast-hex-digit
-    add-hex-digit
-    hex-digit-requires
-    returns
-    silent-requires
-    returns-2)
+    tie.close (tie.spec digit-value-requires mul-hex-digit cast-hex-digit add-hex-digit hex-digit-requires returns
+    silent-requires returns-2)

@@ -1,8 +1,7 @@
+-- made by tools/proof.py from answers/decoder/is_space (answers 4baf15097089, proof f6231a3d086e): edit that file, not this one
 use borrow.Author.Tests.{eq-eqb, ne-eqb}
 use Rattle.literals.proofs.decoder.is_space.Statement.{statement}
 use Rattle.literals.proofs.decoder.is_space.Tie as tie
-use Rattle.literals.proofs.decoder.is_space.Reads as reads
-use Rattle.literals.proofs.decoder.is_space.Lts as lts
 
 returns : tie.Need-returns
 returns c = rw (eq-eqb _ _ (c .if1 .taken))
@@ -17,4 +16,5 @@ returns-4 : tie.Need-returns-4
 returns-4 c = rw (ne-eqb _ _ (c .before .before .if1 .left), ne-eqb _ _ (c .before .if2 .left), ne-eqb _ _ (c .if3 .left))
 
 pub is-space-spec : {M : Type 1} → statement M
-is-space-spec = tie.close (tie.spec returns returns-2 returns-3 returns-4)
+is-space-spec =
+    tie.close (tie.spec returns returns-2 returns-3 returns-4)

@@ -1,11 +1,9 @@
+-- made by tools/proof.py from answers/decoder/many_digits (answers 48ffaa414e8e, proof 6da1f1e9629d): edit that file, not this one
+use borrow.Author.Needs.{needs}
 use borrow.Author.Tests.{eq-eqb, ne-eqb}
 use Rattle.literals.specs.Content.{manyDigits}
-use borrow.Author.Needs.{needs}
 use Rattle.literals.proofs.decoder.many_digits.Statement.{statement}
 use Rattle.literals.proofs.decoder.many_digits.Tie as tie
-use Rattle.literals.proofs.decoder.many_digits.Reads as reads
-use Rattle.literals.proofs.decoder.many_digits.Lts as lts
-use Rattle.literals.proofs.decoder.silent.Reads as silent-reads
 
 silent-requires : tie.Need-silent-requires
 silent-requires c κs = search needs
@@ -44,15 +42,5 @@ returns-5 c = rw (ne-eqb _ _ (c .before .before .before .if1 .left), ne-eqb _ _ 
 
 pub many-digits-spec : {M : Type 1} → statement M
 many-digits-spec =
-    tie.close
-    (tie.spec
-    silent-requires
-    returns
-    silent-requires-2
-    returns-2
-    silent-requires-3
-    returns-3
-    silent-requires-4
-    returns-4
-    silent-requires-5
-    returns-5)
+    tie.close (tie.spec silent-requires returns silent-requires-2 returns-2 silent-requires-3 returns-3
+    silent-requires-4 returns-4 silent-requires-5 returns-5)

@@ -1,11 +1,8 @@
-use native.Mathlib.Omega.{arith}
-use Rattle.literals.specs.Content.{mayEnd}
+-- made by tools/proof.py from answers/decoder/may_end (answers 18707cb03d98, proof f0756a821480): edit that file, not this one
 use borrow.Author.Needs.{needs}
+use Rattle.literals.specs.Content.{mayEnd}
 use Rattle.literals.proofs.decoder.may_end.Statement.{statement}
 use Rattle.literals.proofs.decoder.may_end.Tie as tie
-use Rattle.literals.proofs.decoder.may_end.Reads as reads
-use Rattle.literals.proofs.decoder.may_end.Lts as lts
-use Rattle.literals.proofs.decoder.whole_bytes.Reads as whole-bytes-reads
 
 enum-told : tie.Need-enum-told
 enum-told c = search needs
@@ -68,22 +65,5 @@ returns-8 c = rw (c .enum-told7 .given .1)
 
 pub may-end-spec : {M : Type 1} → statement M
 may-end-spec =
-    tie.close
-    (tie.spec
-    enum-told
-    enum-told-2
-    enum-told-3
-    enum-told-4
-    enum-told-5
-    enum-known-state
-    whole-bytes-requires
-    enum-told-6
-    enum-told-7
-    returns
-    returns-2
-    returns-3
-    returns-4
-    returns-5
-    returns-6
-    returns-7
-    returns-8)
+    tie.close (tie.spec enum-told enum-told-2 enum-told-3 enum-told-4 enum-told-5 enum-known-state whole-bytes-requires
+    enum-told-6 enum-told-7 returns returns-2 returns-3 returns-4 returns-5 returns-6 returns-7 returns-8)

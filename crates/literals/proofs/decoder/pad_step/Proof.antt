@@ -1,12 +1,10 @@
+-- made by tools/proof.py from answers/decoder/pad_step (answers 77bd983da7ec, proof b256e1da28fc): edit that file, not this one
+use borrow.Author.Needs.{needs}
 use native.Mathlib.Omega.{arith}
 use mathlib.Core.Path.{_∙_}
 use Rattle.literals.proofs.DecoderLaws.{pad-none, pad-more}
-use borrow.Author.Needs.{needs}
 use Rattle.literals.proofs.decoder.pad_step.Statement.{statement}
 use Rattle.literals.proofs.decoder.pad_step.Tie as tie
-use Rattle.literals.proofs.decoder.pad_step.Reads as reads
-use Rattle.literals.proofs.decoder.pad_step.Lts as lts
-use Rattle.literals.proofs.decoder.silent.Reads as silent-reads
 
 silent-requires : tie.Need-silent-requires
 silent-requires c κs = search needs
@@ -24,4 +22,5 @@ returns-2 : tie.Need-returns-2
 returns-2 c = c .silent2 .ensures ∙ pad-more _ (omega arith)
 
 pub pad-step-spec : {M : Type 1} → statement M
-pad-step-spec = tie.close (tie.spec silent-requires returns sub-t4 silent-requires-2 returns-2)
+pad-step-spec =
+    tie.close (tie.spec silent-requires returns sub-t4 silent-requires-2 returns-2)

@@ -1,13 +1,9 @@
+-- made by tools/proof.py from answers/decoder/pads_step (answers 46838bbd2508, proof a3e18ad84ebf): edit that file, not this one
+use borrow.Author.Needs.{needs}
 use borrow.Author.Tests.{eq-eqb, ne-eqb}
 use Rattle.literals.specs.Content.{padsStep}
-use borrow.Author.Needs.{needs}
 use Rattle.literals.proofs.decoder.pads_step.Statement.{statement}
 use Rattle.literals.proofs.decoder.pads_step.Tie as tie
-use Rattle.literals.proofs.decoder.pads_step.Reads as reads
-use Rattle.literals.proofs.decoder.pads_step.Lts as lts
-use Rattle.literals.proofs.decoder.is_space.Reads as is-space-reads
-use Rattle.literals.proofs.decoder.pad_step.Reads as pad-step-reads
-use Rattle.literals.proofs.decoder.silent.Reads as silent-reads
 
 is-space-requires : tie.Need-is-space-requires
 is-space-requires c κs = search needs
@@ -35,12 +31,5 @@ returns-3 c = rw (← c .before .before .before .is-space .ensures, c .before .b
 
 pub pads-step-spec : {M : Type 1} → statement M
 pads-step-spec =
-    tie.close
-    (tie.spec
-    is-space-requires
-    silent-requires
-    returns
-    pad-step-requires
-    returns-2
-    silent-requires-2
+    tie.close (tie.spec is-space-requires silent-requires returns pad-step-requires returns-2 silent-requires-2
     returns-3)

@@ -1,13 +1,9 @@
+-- made by tools/proof.py from answers/decoder/plain_step (answers aa54845fbfad, proof 507d3ffd22d4): edit that file, not this one
+use borrow.Author.Needs.{needs}
 use borrow.Author.Tests.{eq-eqb, ne-eqb}
 use Rattle.literals.specs.Content.{plainStep}
-use borrow.Author.Needs.{needs}
 use Rattle.literals.proofs.decoder.plain_step.Statement.{statement}
 use Rattle.literals.proofs.decoder.plain_step.Tie as tie
-use Rattle.literals.proofs.decoder.plain_step.Reads as reads
-use Rattle.literals.proofs.decoder.plain_step.Lts as lts
-use Rattle.literals.proofs.decoder.quoted_refuses.Reads as quoted-refuses-reads
-use Rattle.literals.proofs.decoder.silent.Reads as silent-reads
-use Rattle.literals.proofs.decoder.single.Reads as single-reads
 
 silent-requires : tie.Need-silent-requires
 silent-requires c κs = search needs
@@ -35,12 +31,5 @@ returns-3 c = rw (ne-eqb _ _ (c .before .before .before .if1 .left), ← c .befo
 
 pub plain-step-spec : {M : Type 1} → statement M
 plain-step-spec =
-    tie.close
-    (tie.spec
-    silent-requires
-    returns
-    quoted-refuses-requires
-    silent-requires-2
-    returns-2
-    single-requires
+    tie.close (tie.spec silent-requires returns quoted-refuses-requires silent-requires-2 returns-2 single-requires
     returns-3)

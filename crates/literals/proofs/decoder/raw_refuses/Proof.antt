@@ -1,9 +1,8 @@
+-- made by tools/proof.py from answers/decoder/raw_refuses (answers d8291de2be44, proof 8801386a426f): edit that file, not this one
 use Rattle.literals.specs.Content.{rawRefuses}
 use Rattle.literals.proofs.DecoderLaws.{raw-high, raw-return, raw-low}
 use Rattle.literals.proofs.decoder.raw_refuses.Statement.{statement}
 use Rattle.literals.proofs.decoder.raw_refuses.Tie as tie
-use Rattle.literals.proofs.decoder.raw_refuses.Reads as reads
-use Rattle.literals.proofs.decoder.raw_refuses.Lts as lts
 
 returns : tie.Need-returns
 unfolding rawRefuses
@@ -23,4 +22,5 @@ returns-5 : tie.Need-returns-5
 returns-5 c = raw-low _ _ (c .before .before .if2 .left) (c .before .if3 .left) (c .if4 .left)
 
 pub raw-refuses-spec : {M : Type 1} → statement M
-raw-refuses-spec = tie.close (tie.spec returns returns-2 returns-3 returns-4 returns-5)
+raw-refuses-spec =
+    tie.close (tie.spec returns returns-2 returns-3 returns-4 returns-5)

@@ -1,12 +1,8 @@
-use Rattle.literals.specs.Content.{rawStep}
+-- made by tools/proof.py from answers/decoder/raw_step (answers 9cf54eebadc2, proof e0045e5f2107): edit that file, not this one
 use borrow.Author.Needs.{needs}
+use Rattle.literals.specs.Content.{rawStep}
 use Rattle.literals.proofs.decoder.raw_step.Statement.{statement}
 use Rattle.literals.proofs.decoder.raw_step.Tie as tie
-use Rattle.literals.proofs.decoder.raw_step.Reads as reads
-use Rattle.literals.proofs.decoder.raw_step.Lts as lts
-use Rattle.literals.proofs.decoder.raw_refuses.Reads as raw-refuses-reads
-use Rattle.literals.proofs.decoder.silent.Reads as silent-reads
-use Rattle.literals.proofs.decoder.single.Reads as single-reads
 
 raw-refuses-requires : tie.Need-raw-refuses-requires
 raw-refuses-requires c κs = search needs

@@ -1,10 +1,9 @@
+-- made by tools/proof.py from answers/decoder/start_of (answers 0e001e257a18, proof d78fbc6ea8b2): edit that file, not this one
+use borrow.Author.Needs.{needs}
 use mathlib.Core.Path.{sym, ap}
 use Rattle.literals.specs.Content.{startOf}
-use borrow.Author.Needs.{needs}
 use Rattle.literals.proofs.decoder.start_of.Statement.{statement}
 use Rattle.literals.proofs.decoder.start_of.Tie as tie
-use Rattle.literals.proofs.decoder.start_of.Reads as reads
-use Rattle.literals.proofs.decoder.start_of.Lts as lts
 
 enum-told : tie.Need-enum-told
 enum-told c = search needs
@@ -36,5 +35,4 @@ returns-4 c = sym (ap startOf (c .enum-told4 .given .1))
 
 pub start-of-spec : {M : Type 1} → statement M
 start-of-spec =
-    tie.close
-    (tie.spec enum-told enum-told-2 enum-told-3 enum-told-4 returns returns-2 returns-3 returns-4)
+    tie.close (tie.spec enum-told enum-told-2 enum-told-3 enum-told-4 returns returns-2 returns-3 returns-4)

@@ -1,11 +1,9 @@
+-- made by tools/proof.py from answers/number/and_digit (answers 5d0d6c72c23a, proof acd5ffe5aacc): edit that file, not this one
 use native.Mathlib.Omega.{arith}
 use mathlib.Core.Path.{sym}
 use Rattle.literals.proofs.NumberLaws.{wide-digit, close-digit, cap-over, cap-under}
-use borrow.Author.Needs.{needs}
 use Rattle.literals.proofs.number.and_digit.Statement.{statement}
 use Rattle.literals.proofs.number.and_digit.Tie as tie
-use Rattle.literals.proofs.number.and_digit.Reads as reads
-use Rattle.literals.proofs.number.and_digit.Lts as lts
 
 div-if1 : tie.Need-div-if1
 div-if1 c = omega arith
@@ -26,4 +24,5 @@ returns-3 : tie.Need-returns-3
 returns-3 c = sym (cap-under _ (omega arith))
 
 pub and-digit-spec : {M : Type 1} → statement M
-and-digit-spec = tie.close (tie.spec div-if1 returns mul-longer add-longer returns-2 returns-3)
+and-digit-spec =
+    tie.close (tie.spec div-if1 returns mul-longer add-longer returns-2 returns-3)

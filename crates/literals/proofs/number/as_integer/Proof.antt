@@ -1,3 +1,4 @@
+-- made by tools/proof.py from answers/number/as_integer (answers ed4613a5e253, proof a32558f4ca3a): edit that file, not this one
 use native.Mathlib.Omega.{arith}
 use mathlib.Core.Path.{ap}
 use Prim.Native.Nat.{_-_}
@@ -7,11 +8,8 @@ use borrow.Author.Tests.{le-leb, lt-leb}
 use Rattle.literals.specs.declared.number.Meaning.the-variants.{Integer}
 use Rattle.literals.specs.Number.{asInteger}
 use Rattle.literals.proofs.Signed.{down-fits, neg-read}
-use borrow.Author.Needs.{needs}
 use Rattle.literals.proofs.number.as_integer.Statement.{statement}
 use Rattle.literals.proofs.number.as_integer.Tie as tie
-use Rattle.literals.proofs.number.as_integer.Reads as reads
-use Rattle.literals.proofs.number.as_integer.Lts as lts
 
 add-if2 : tie.Need-add-if2
 add-if2 c = omega arith
@@ -35,7 +33,9 @@ sub-t7 c = down-fits (c .before .before .before .args .m - 1) (omega arith)
 
 returns-3 : tie.Need-returns-3
 unfolding asInteger
-returns-3 c = rw (c .before .before .if1 .taken, le-leb (c .before .before .before .args .m) 9223372036854775808 (omega arith)) (ap Integer (neg-read (c .before .before .before .args .m) (omega arith) (omega arith)))
+returns-3 c =
+    let the-args = c .before .before .before .args in
+    rw (c .before .before .if1 .taken, le-leb (the-args .m) 9223372036854775808 (omega arith)) (ap Integer (neg-read (the-args .m) (omega arith) (omega arith)))
 
 returns-4 : tie.Need-returns-4
 unfolding asInteger
@@ -50,15 +50,4 @@ returns-5 c = rw (c .before .if1 .left, le-leb (c .before .before .args .m) 9223
 
 pub as-integer-spec : {M : Type 1} → statement M
 as-integer-spec =
-    tie.close
-    (tie.spec
-    add-if2
-    returns
-    returns-2
-    sub-less
-    cast-less
-    sub-t7
-    returns-3
-    returns-4
-    cast-t8
-    returns-5)
+    tie.close (tie.spec add-if2 returns returns-2 sub-less cast-less sub-t7 returns-3 returns-4 cast-t8 returns-5)

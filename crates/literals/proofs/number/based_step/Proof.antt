@@ -1,16 +1,13 @@
+-- made by tools/proof.py from answers/number/based_step (answers 2de92e2ba68b, proof f4de0d5ff2a5): edit that file, not this one
+use borrow.Author.Needs.{needs}
 use native.Mathlib.Omega.{arith}
 use borrow.Author.Tests.{lt-ltb, le-ltb, eq-eqb, ne-eqb}
 use Rattle.text.specs.Bytes.{digitValue}
 use Rattle.literals.specs.Number.{numberStep}
 use Rattle.literals.specs.InternalNumber.{capped}
 use Rattle.literals.proofs.NumberLaws.{cap-cap}
-use borrow.Author.Needs.{needs}
 use Rattle.literals.proofs.number.based_step.Statement.{statement}
 use Rattle.literals.proofs.number.based_step.Tie as tie
-use Rattle.literals.proofs.number.based_step.Reads as reads
-use Rattle.literals.proofs.number.based_step.Lts as lts
-use Rattle.literals.proofs.number.and_digit.Reads as and-digit-reads
-use Rattle.literals.proofs.number.digit_of.Reads as digit-of-reads
 
 digit-of-requires : tie.Need-digit-of-requires
 digit-of-requires c κs = search needs
@@ -20,15 +17,21 @@ and-digit-requires c κs = search needs
 
 returns : tie.Need-returns
 unfolding numberStep capped
-returns c = rw (lt-ltb (digitValue (c .before .before .before .args .b)) (c .before .before .before .args .base) (omega arith), c .and-digit .ensures, c .before .before .digit-of .ensures .0, cap-cap)
+returns c =
+    let the-args = c .before .before .before .args in
+    rw (lt-ltb (digitValue (the-args .b)) (the-args .base) (omega arith), c .and-digit .ensures, c .before .before .digit-of .ensures .0, cap-cap)
 
 returns-2 : tie.Need-returns-2
 unfolding numberStep capped
-returns-2 c = rw (le-ltb (digitValue (c .before .before .before .args .b)) (c .before .before .before .args .base) (omega arith), eq-eqb _ 95 (c .if2 .taken))
+returns-2 c =
+    let the-args = c .before .before .before .args in
+    rw (le-ltb (digitValue (the-args .b)) (the-args .base) (omega arith), eq-eqb _ 95 (c .if2 .taken))
 
 returns-3 : tie.Need-returns-3
 unfolding numberStep capped
-returns-3 c = rw (le-ltb (digitValue (c .before .before .before .args .b)) (c .before .before .before .args .base) (omega arith), ne-eqb _ 95 (c .if2 .left))
+returns-3 c =
+    let the-args = c .before .before .before .args in
+    rw (le-ltb (digitValue (the-args .b)) (the-args .base) (omega arith), ne-eqb _ 95 (c .if2 .left))
 
 pub based-step-spec : {M : Type 1} → statement M
 based-step-spec =

@@ -1,17 +1,13 @@
+-- made by tools/proof.py from answers/number/digit_step (answers 975e0eb3106d, proof 82c277d2b7f9): edit that file, not this one
+use borrow.Author.Needs.{needs}
 use native.Mathlib.Omega.{arith}
 use borrow.Author.Tests.{lt-ltb, le-ltb, eq-eqb, ne-eqb}
 use Rattle.text.specs.Bytes.{digitValue}
 use Rattle.literals.specs.Number.{numberStep}
 use Rattle.literals.specs.InternalNumber.{capped}
 use Rattle.literals.proofs.NumberLaws.{cap-cap}
-use borrow.Author.Needs.{needs}
 use Rattle.literals.proofs.number.digit_step.Statement.{statement}
 use Rattle.literals.proofs.number.digit_step.Tie as tie
-use Rattle.literals.proofs.number.digit_step.Reads as reads
-use Rattle.literals.proofs.number.digit_step.Lts as lts
-use Rattle.literals.proofs.number.and_digit.Reads as and-digit-reads
-use Rattle.literals.proofs.number.digit_of.Reads as digit-of-reads
-use Rattle.literals.proofs.number.is_e.Reads as is-e-reads
 
 digit-of-requires : tie.Need-digit-of-requires
 digit-of-requires c κs = search needs
@@ -44,13 +40,5 @@ returns-5 c = rw (le-ltb (digitValue (c .before .before .before .before .before 
 
 pub digit-step-spec : {M : Type 1} → statement M
 digit-step-spec =
-    tie.close
-    (tie.spec
-    digit-of-requires
-    and-digit-requires
-    returns
-    returns-2
-    returns-3
-    is-e-requires
-    returns-4
+    tie.close (tie.spec digit-of-requires and-digit-requires returns returns-2 returns-3 is-e-requires returns-4
     returns-5)

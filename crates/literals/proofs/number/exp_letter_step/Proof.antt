@@ -1,13 +1,11 @@
+-- made by tools/proof.py from answers/number/exp_letter_step (answers 9ac3b80f89f3, proof 40fa32a73c9b): edit that file, not this one
+use borrow.Author.Needs.{needs}
 use native.Mathlib.Omega.{arith}
 use borrow.Author.Tests.{eq-eqb, ne-eqb}
 use Rattle.literals.specs.Number.{numberStep}
 use Rattle.literals.specs.InternalNumber.{capped}
-use borrow.Author.Needs.{needs}
 use Rattle.literals.proofs.number.exp_letter_step.Statement.{statement}
 use Rattle.literals.proofs.number.exp_letter_step.Tie as tie
-use Rattle.literals.proofs.number.exp_letter_step.Reads as reads
-use Rattle.literals.proofs.number.exp_letter_step.Lts as lts
-use Rattle.literals.proofs.number.exp_sign_step.Reads as exp-sign-step-reads
 
 returns : tie.Need-returns
 unfolding numberStep capped
@@ -25,4 +23,5 @@ unfolding numberStep capped
 returns-3 c = rw (ne-eqb _ 43 (c .before .before .if1 .left), ne-eqb _ 45 (c .before .if2 .left)) (c .exp-sign-step .ensures)
 
 pub exp-letter-step-spec : {M : Type 1} → statement M
-exp-letter-step-spec = tie.close (tie.spec returns returns-2 exp-sign-step-requires returns-3)
+exp-letter-step-spec =
+    tie.close (tie.spec returns returns-2 exp-sign-step-requires returns-3)

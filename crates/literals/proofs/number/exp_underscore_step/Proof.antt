@@ -1,16 +1,13 @@
+-- made by tools/proof.py from answers/number/exp_underscore_step (answers b16ea8773899, proof 18a715e95636): edit that file, not this one
+use borrow.Author.Needs.{needs}
 use native.Mathlib.Omega.{arith}
 use borrow.Author.Tests.{lt-ltb, le-ltb}
 use Rattle.text.specs.Bytes.{digitValue}
 use Rattle.literals.specs.Number.{numberStep}
 use Rattle.literals.specs.InternalNumber.{capped}
 use Rattle.literals.proofs.NumberLaws.{cap-cap}
-use borrow.Author.Needs.{needs}
 use Rattle.literals.proofs.number.exp_underscore_step.Statement.{statement}
 use Rattle.literals.proofs.number.exp_underscore_step.Tie as tie
-use Rattle.literals.proofs.number.exp_underscore_step.Reads as reads
-use Rattle.literals.proofs.number.exp_underscore_step.Lts as lts
-use Rattle.literals.proofs.number.and_digit.Reads as and-digit-reads
-use Rattle.literals.proofs.number.digit_of.Reads as digit-of-reads
 
 digit-of-requires : tie.Need-digit-of-requires
 digit-of-requires c κs = search needs

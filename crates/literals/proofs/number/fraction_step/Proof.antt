@@ -1,3 +1,5 @@
+-- made by tools/proof.py from answers/number/fraction_step (answers f6d84ceb692e, proof 03b594e69b04): edit that file, not this one
+use borrow.Author.Needs.{needs}
 use native.Mathlib.Omega.{arith}
 use borrow.Author.Tests.{lt-ltb, le-ltb, eq-eqb, ne-eqb}
 use Rattle.text.specs.Bytes.{digitValue}
@@ -5,14 +7,8 @@ use Rattle.literals.specs.Number.{numberStep}
 use Rattle.literals.specs.InternalNumber.{capped}
 use Rattle.literals.proofs.NumberLaws.{cap-cap}
 use native.Mathlib.Numerals.{add-one}
-use borrow.Author.Needs.{needs}
 use Rattle.literals.proofs.number.fraction_step.Statement.{statement}
 use Rattle.literals.proofs.number.fraction_step.Tie as tie
-use Rattle.literals.proofs.number.fraction_step.Reads as reads
-use Rattle.literals.proofs.number.fraction_step.Lts as lts
-use Rattle.literals.proofs.number.and_digit.Reads as and-digit-reads
-use Rattle.literals.proofs.number.digit_of.Reads as digit-of-reads
-use Rattle.literals.proofs.number.is_e.Reads as is-e-reads
 
 digit-of-requires : tie.Need-digit-of-requires
 digit-of-requires c κs = search needs
@@ -44,13 +40,4 @@ returns-4 c = rw (le-ltb (digitValue (c .before .before .before .before .before 
 
 pub fraction-step-spec : {M : Type 1} → statement M
 fraction-step-spec =
-    tie.close
-    (tie.spec
-    digit-of-requires
-    and-digit-requires
-    add-t8
-    returns
-    returns-2
-    is-e-requires
-    returns-3
-    returns-4)
+    tie.close (tie.spec digit-of-requires and-digit-requires add-t8 returns returns-2 is-e-requires returns-3 returns-4)

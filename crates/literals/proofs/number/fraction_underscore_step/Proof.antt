@@ -1,3 +1,5 @@
+-- made by tools/proof.py from answers/number/fraction_underscore_step (answers 7f4c868613f6, proof d88b30ababb4): edit that file, not this one
+use borrow.Author.Needs.{needs}
 use native.Mathlib.Omega.{arith}
 use borrow.Author.Tests.{lt-ltb, le-ltb}
 use Rattle.text.specs.Bytes.{digitValue}
@@ -5,13 +7,8 @@ use Rattle.literals.specs.Number.{numberStep}
 use Rattle.literals.specs.InternalNumber.{capped}
 use Rattle.literals.proofs.NumberLaws.{cap-cap}
 use native.Mathlib.Numerals.{add-one}
-use borrow.Author.Needs.{needs}
 use Rattle.literals.proofs.number.fraction_underscore_step.Statement.{statement}
 use Rattle.literals.proofs.number.fraction_underscore_step.Tie as tie
-use Rattle.literals.proofs.number.fraction_underscore_step.Reads as reads
-use Rattle.literals.proofs.number.fraction_underscore_step.Lts as lts
-use Rattle.literals.proofs.number.and_digit.Reads as and-digit-reads
-use Rattle.literals.proofs.number.digit_of.Reads as digit-of-reads
 
 digit-of-requires : tie.Need-digit-of-requires
 digit-of-requires c κs = search needs

@@ -1,13 +1,8 @@
-use native.Mathlib.Omega.{arith}
-use Rattle.literals.specs.Number.{meaning}
+-- made by tools/proof.py from answers/number/meaning_of (answers 40f641eefe13, proof cf67c8dfc657): edit that file, not this one
 use borrow.Author.Needs.{needs}
+use Rattle.literals.specs.Number.{meaning}
 use Rattle.literals.proofs.number.meaning_of.Statement.{statement}
 use Rattle.literals.proofs.number.meaning_of.Tie as tie
-use Rattle.literals.proofs.number.meaning_of.Reads as reads
-use Rattle.literals.proofs.number.meaning_of.Lts as lts
-use Rattle.literals.proofs.number.as_decimal.Reads as as-decimal-reads
-use Rattle.literals.proofs.number.as_integer.Reads as as-integer-reads
-use Rattle.literals.proofs.number.with_exponent.Reads as with-exponent-reads
 
 enum-told : tie.Need-enum-told
 enum-told c = search needs
@@ -138,42 +133,8 @@ returns-16 c = rw (c .enum-told11 .given .1)
 
 pub meaning-of-spec : {M : Type 1} → statement M
 meaning-of-spec =
-    tie.close
-    (tie.spec
-    enum-told
-    enum-told-2
-    enum-told-3
-    enum-known-state
-    as-integer-requires
-    enum-known-state-2
-    as-integer-requires-2
-    enum-told-4
-    enum-told-5
-    enum-told-6
-    enum-known-state-3
-    as-integer-requires-3
-    enum-told-7
-    enum-known-state-4
-    as-decimal-requires
-    enum-told-8
-    enum-told-9
-    enum-told-10
-    enum-known-state-5
-    with-exponent-requires
-    enum-told-11
-    returns
-    returns-2
-    returns-3
-    returns-4
-    returns-5
-    returns-6
-    returns-7
-    returns-8
-    returns-9
-    returns-10
-    returns-11
-    returns-12
-    returns-13
-    returns-14
-    returns-15
-    returns-16)
+    tie.close (tie.spec enum-told enum-told-2 enum-told-3 enum-known-state as-integer-requires enum-known-state-2
+    as-integer-requires-2 enum-told-4 enum-told-5 enum-told-6 enum-known-state-3 as-integer-requires-3 enum-told-7
+    enum-known-state-4 as-decimal-requires enum-told-8 enum-told-9 enum-told-10 enum-known-state-5
+    with-exponent-requires enum-told-11 returns returns-2 returns-3 returns-4 returns-5 returns-6 returns-7 returns-8
+    returns-9 returns-10 returns-11 returns-12 returns-13 returns-14 returns-15 returns-16)

@@ -1,26 +1,9 @@
-use native.Mathlib.Omega.{arith}
+-- made by tools/proof.py from answers/number/number_step (answers c8b9c919cbc2, proof ef8321aa32cb): edit that file, not this one
+use borrow.Author.Needs.{needs}
 use Rattle.literals.specs.Number.{numberStep}
 use Rattle.literals.specs.InternalNumber.{placesOf}
-use borrow.Author.Needs.{needs}
 use Rattle.literals.proofs.number.number_step.Statement.{statement}
 use Rattle.literals.proofs.number.number_step.Tie as tie
-use Rattle.literals.proofs.number.number_step.Reads as reads
-use Rattle.literals.proofs.number.number_step.Lts as lts
-use Rattle.literals.proofs.number.based_step.Reads as based-step-reads
-use Rattle.literals.proofs.number.based_underscore_step.Reads as based-underscore-step-reads
-use Rattle.literals.proofs.number.digit_step.Reads as digit-step-reads
-use Rattle.literals.proofs.number.dot_step.Reads as dot-step-reads
-use Rattle.literals.proofs.number.exp_digit_step.Reads as exp-digit-step-reads
-use Rattle.literals.proofs.number.exp_letter_step.Reads as exp-letter-step-reads
-use Rattle.literals.proofs.number.exp_sign_step.Reads as exp-sign-step-reads
-use Rattle.literals.proofs.number.exp_underscore_step.Reads as exp-underscore-step-reads
-use Rattle.literals.proofs.number.fraction_step.Reads as fraction-step-reads
-use Rattle.literals.proofs.number.fraction_underscore_step.Reads as fraction-underscore-step-reads
-use Rattle.literals.proofs.number.prefix_step.Reads as prefix-step-reads
-use Rattle.literals.proofs.number.sign_step.Reads as sign-step-reads
-use Rattle.literals.proofs.number.start_step.Reads as start-step-reads
-use Rattle.literals.proofs.number.underscore_step.Reads as underscore-step-reads
-use Rattle.literals.proofs.number.zero_step.Reads as zero-step-reads
 
 enum-told : tie.Need-enum-told
 enum-told c = search needs
@@ -168,52 +151,11 @@ returns-16 c = rw (c .before .before .state14 .given .1) (c .exp-underscore-step
 
 pub number-step-spec : {M : Type 1} → statement M
 number-step-spec =
-    tie.close
-    (tie.spec
-    enum-told
-    start-step-requires
-    enum-told-2
-    enum-known-state
-    sign-step-requires
-    enum-known-state-2
-    zero-step-requires
-    enum-known-state-3
-    digit-step-requires
-    enum-known-state-4
-    underscore-step-requires
-    enum-known-state-5
-    dot-step-requires
-    enum-known-state-6
-    prefix-step-requires
-    enum-known-state-7
-    based-step-requires
-    enum-known-state-8
-    based-underscore-step-requires
-    enum-known-state-9
-    fraction-step-requires
-    enum-known-state-10
-    fraction-underscore-step-requires
-    enum-known-state-11
-    exp-letter-step-requires
-    enum-known-state-12
-    exp-sign-step-requires
-    enum-known-state-13
-    exp-digit-step-requires
-    enum-known-state-14
-    exp-underscore-step-requires
-    returns
-    returns-2
-    returns-3
-    returns-4
-    returns-5
-    returns-6
-    returns-7
-    returns-8
-    returns-9
-    returns-10
-    returns-11
-    returns-12
-    returns-13
-    returns-14
-    returns-15
-    returns-16)
+    tie.close (tie.spec enum-told start-step-requires enum-told-2 enum-known-state sign-step-requires enum-known-state-2
+    zero-step-requires enum-known-state-3 digit-step-requires enum-known-state-4 underscore-step-requires
+    enum-known-state-5 dot-step-requires enum-known-state-6 prefix-step-requires enum-known-state-7 based-step-requires
+    enum-known-state-8 based-underscore-step-requires enum-known-state-9 fraction-step-requires enum-known-state-10
+    fraction-underscore-step-requires enum-known-state-11 exp-letter-step-requires enum-known-state-12
+    exp-sign-step-requires enum-known-state-13 exp-digit-step-requires enum-known-state-14 exp-underscore-step-requires
+    returns returns-2 returns-3 returns-4 returns-5 returns-6 returns-7 returns-8 returns-9 returns-10 returns-11
+    returns-12 returns-13 returns-14 returns-15 returns-16)

@@ -1,14 +1,10 @@
-use native.Mathlib.Omega.{arith}
+-- made by tools/proof.py from answers/number/sign_step (answers 12cfcb19645a, proof 8ddf1dfad98b): edit that file, not this one
+use borrow.Author.Needs.{needs}
 use borrow.Author.Tests.{eq-eqb, ne-eqb}
 use Rattle.literals.specs.Number.{numberStep}
 use Rattle.literals.specs.InternalNumber.{capped}
-use borrow.Author.Needs.{needs}
 use Rattle.literals.proofs.number.sign_step.Statement.{statement}
 use Rattle.literals.proofs.number.sign_step.Tie as tie
-use Rattle.literals.proofs.number.sign_step.Reads as reads
-use Rattle.literals.proofs.number.sign_step.Lts as lts
-use Rattle.literals.proofs.number.digit_of.Reads as digit-of-reads
-use Rattle.literals.proofs.number.is_one_to_nine.Reads as is-one-to-nine-reads
 
 returns : tie.Need-returns
 unfolding numberStep capped

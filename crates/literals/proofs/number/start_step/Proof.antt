@@ -1,14 +1,11 @@
+-- made by tools/proof.py from answers/number/start_step (answers ed90926014ce, proof 4327f006c841): edit that file, not this one
+use borrow.Author.Needs.{needs}
 use native.Mathlib.Omega.{arith}
 use borrow.Author.Tests.{eq-eqb, ne-eqb}
 use Rattle.literals.specs.Number.{numberStep}
 use Rattle.literals.specs.InternalNumber.{capped}
-use borrow.Author.Needs.{needs}
 use Rattle.literals.proofs.number.start_step.Statement.{statement}
 use Rattle.literals.proofs.number.start_step.Tie as tie
-use Rattle.literals.proofs.number.start_step.Reads as reads
-use Rattle.literals.proofs.number.start_step.Lts as lts
-use Rattle.literals.proofs.number.digit_of.Reads as digit-of-reads
-use Rattle.literals.proofs.number.is_one_to_nine.Reads as is-one-to-nine-reads
 
 returns : tie.Need-returns
 unfolding numberStep capped
@@ -38,12 +35,4 @@ returns-5 c = rw (ne-eqb _ 43 (c .before .before .before .before .if1 .left), ne
 
 pub start-step-spec : {M : Type 1} → statement M
 start-step-spec =
-    tie.close
-    (tie.spec
-    returns
-    returns-2
-    returns-3
-    is-one-to-nine-requires
-    digit-of-requires
-    returns-4
-    returns-5)
+    tie.close (tie.spec returns returns-2 returns-3 is-one-to-nine-requires digit-of-requires returns-4 returns-5)

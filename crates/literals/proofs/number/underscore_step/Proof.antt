@@ -1,16 +1,13 @@
+-- made by tools/proof.py from answers/number/underscore_step (answers 9b682373e5e4, proof 4f41c847cfa4): edit that file, not this one
+use borrow.Author.Needs.{needs}
 use native.Mathlib.Omega.{arith}
 use borrow.Author.Tests.{lt-ltb, le-ltb}
 use Rattle.text.specs.Bytes.{digitValue}
 use Rattle.literals.specs.Number.{numberStep}
 use Rattle.literals.specs.InternalNumber.{capped}
 use Rattle.literals.proofs.NumberLaws.{cap-cap}
-use borrow.Author.Needs.{needs}
 use Rattle.literals.proofs.number.underscore_step.Statement.{statement}
 use Rattle.literals.proofs.number.underscore_step.Tie as tie
-use Rattle.literals.proofs.number.underscore_step.Reads as reads
-use Rattle.literals.proofs.number.underscore_step.Lts as lts
-use Rattle.literals.proofs.number.and_digit.Reads as and-digit-reads
-use Rattle.literals.proofs.number.digit_of.Reads as digit-of-reads
 
 digit-of-requires : tie.Need-digit-of-requires
 digit-of-requires c κs = search needs
@@ -27,4 +24,5 @@ unfolding numberStep capped
 returns-2 c = rw (le-ltb (digitValue (c .before .before .args .b)) 10 (omega arith))
 
 pub underscore-step-spec : {M : Type 1} → statement M
-underscore-step-spec = tie.close (tie.spec digit-of-requires and-digit-requires returns returns-2)
+underscore-step-spec =
+    tie.close (tie.spec digit-of-requires and-digit-requires returns returns-2)

@@ -1,14 +1,10 @@
-use native.Mathlib.Omega.{arith}
+-- made by tools/proof.py from answers/number/zero_step (answers 0c7e6a8ff45f, proof ec85e6cb8abe): edit that file, not this one
+use borrow.Author.Needs.{needs}
 use borrow.Author.Tests.{lt-ltb, le-ltb, eq-eqb, ne-eqb}
 use Rattle.literals.specs.Number.{numberStep}
 use Rattle.literals.specs.InternalNumber.{capped}
-use borrow.Author.Needs.{needs}
 use Rattle.literals.proofs.number.zero_step.Statement.{statement}
 use Rattle.literals.proofs.number.zero_step.Tie as tie
-use Rattle.literals.proofs.number.zero_step.Reads as reads
-use Rattle.literals.proofs.number.zero_step.Lts as lts
-use Rattle.literals.proofs.number.base_of.Reads as base-of-reads
-use Rattle.literals.proofs.number.is_e.Reads as is-e-reads
 
 returns : tie.Need-returns
 unfolding numberStep capped
@@ -38,5 +34,4 @@ returns-5 c = rw (ne-eqb _ 46 (c .before .before .before .before .before .if1 .l
 
 pub zero-step-spec : {M : Type 1} → statement M
 zero-step-spec =
-    tie.close
-    (tie.spec returns is-e-requires returns-2 returns-3 base-of-requires returns-4 returns-5)
+    tie.close (tie.spec returns is-e-requires returns-2 returns-3 base-of-requires returns-4 returns-5)

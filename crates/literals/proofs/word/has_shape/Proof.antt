@@ -1,3 +1,4 @@
+-- made by tools/proof.py from answers/word/has_shape (answers bdc690049834, proof b03a16c8c975): edit that file, not this one
 use borrow.Author.Needs.{needs}
 use native.Mathlib.Omega.{arith}
 use mathlib.Core.Path.{_≡_, refl, sym, ap, _∙_}
@@ -9,10 +10,6 @@ use Rattle.literals.specs.declared.word.Shape.the-variants.{Start}
 use Rattle.literals.specs.Word.{shapeStep, isGood, hasShape}
 use Rattle.literals.proofs.word.has_shape.Statement.{statement}
 use Rattle.literals.proofs.word.has_shape.Tie as tie
-use Rattle.literals.proofs.word.has_shape.Reads as reads
-use Rattle.literals.proofs.word.has_shape.Lts as lts
-use Rattle.literals.proofs.word.is_good.Reads as is-good-reads
-use Rattle.literals.proofs.word.shape_step.Reads as shape-step-reads
 
 abbrev Inv-loop : tie.InvT-loop
 Inv-loop s state₀ i₀ state i = (i ≤ length s) × (feed shapeStep Start s ≡ feed shapeStep state (drop i s))
@@ -36,26 +33,20 @@ loop-less : tie.Need-loop-less Inv-loop μ-loop
 loop-less c = omega arith
 
 loop-again : tie.Need-loop-again Inv-loop μ-loop
-loop-again c = (omega arith, c .before .before .before .loop .inv .1 ∙ feed-turn shapeStep (c .before .before .before .loop .state) _ (c .before .before .before .before .before .args .s .now) (c .before .before .before .loop .i) (omega arith) (c .shape-step .ensures))
+loop-again c =
+    let the-loop = c .before .before .before .loop in
+    (omega arith, the-loop .inv .1 ∙ feed-turn shapeStep (the-loop .state) _ (c .before .before .before .before .before .args .s .now) (the-loop .i) (omega arith) (c .shape-step .ensures))
 
 is-good-requires : tie.Need-is-good-requires Inv-loop μ-loop
 is-good-requires c κs = search needs
 
 returns : tie.Need-returns Inv-loop μ-loop
 unfolding hasShape
-returns c = c .is-good .ensures ∙ ap isGood (sym (c .before .before .loop .inv .1 ∙ feed-done shapeStep (c .before .before .loop .state) (c .before .before .before .before .args .s .now) (c .before .before .loop .i) (omega arith)))
+returns c =
+    let the-loop = c .before .before .loop in
+    c .is-good .ensures ∙ ap isGood (sym (the-loop .inv .1 ∙ feed-done shapeStep (the-loop .state) (c .before .before .before .before .args .s .now) (the-loop .i) (omega arith)))
 
 pub has-shape-spec : {M : Type 1} → statement M
 has-shape-spec =
-    tie.close
-    (tie.spec
-    Inv-loop
-    μ-loop
-    loop-holds
-    shared-slice-read-shape-step
-    shape-step-requires
-    add-i
-    loop-less
-    loop-again
-    is-good-requires
-    returns)
+    tie.close (tie.spec Inv-loop μ-loop loop-holds shared-slice-read-shape-step shape-step-requires add-i loop-less
+    loop-again is-good-requires returns)

@@ -1,11 +1,9 @@
-use native.Mathlib.Omega.{arith}
+-- made by tools/proof.py from answers/word/is_good (answers ee815f96049c, proof d61be820e401): edit that file, not this one
+use borrow.Author.Needs.{needs}
 use mathlib.Core.Path.{sym, ap}
 use Rattle.literals.specs.Word.{isGood}
-use borrow.Author.Needs.{needs}
 use Rattle.literals.proofs.word.is_good.Statement.{statement}
 use Rattle.literals.proofs.word.is_good.Tie as tie
-use Rattle.literals.proofs.word.is_good.Reads as reads
-use Rattle.literals.proofs.word.is_good.Lts as lts
 
 enum-told : tie.Need-enum-told
 enum-told c = search needs
@@ -44,15 +42,5 @@ returns-5 c = sym (ap isGood (c .enum-told5 .given .1))
 
 pub is-good-spec : {M : Type 1} → statement M
 is-good-spec =
-    tie.close
-    (tie.spec
-    enum-told
-    enum-told-2
-    enum-told-3
-    enum-told-4
-    enum-told-5
-    returns
-    returns-2
-    returns-3
-    returns-4
+    tie.close (tie.spec enum-told enum-told-2 enum-told-3 enum-told-4 enum-told-5 returns returns-2 returns-3 returns-4
     returns-5)

@@ -1,14 +1,9 @@
-use native.Mathlib.Omega.{arith}
+-- made by tools/proof.py from answers/word/shape_step (answers 9913e4447612, proof bda63890b532): edit that file, not this one
+use borrow.Author.Needs.{needs}
 use borrow.Author.Tests.{eq-eqb, ne-eqb}
 use Rattle.literals.specs.Word.{shapeStep}
-use borrow.Author.Needs.{needs}
 use Rattle.literals.proofs.word.shape_step.Statement.{statement}
 use Rattle.literals.proofs.word.shape_step.Tie as tie
-use Rattle.literals.proofs.word.shape_step.Reads as reads
-use Rattle.literals.proofs.word.shape_step.Lts as lts
-use Rattle.literals.proofs.word.is_joiner.Reads as is-joiner-reads
-use Rattle.literals.proofs.word.is_letter.Reads as is-letter-reads
-use Rattle.literals.proofs.word.is_letter_or_digit.Reads as is-letter-or-digit-reads
 
 enum-told : tie.Need-enum-told
 enum-told c = search needs
@@ -86,26 +81,6 @@ returns-11 c = rw (c .enum-told5 .given .1)
 
 pub shape-step-spec : {M : Type 1} → statement M
 shape-step-spec =
-    tie.close
-    (tie.spec
-    enum-told
-    returns
-    is-letter-requires
-    returns-2
-    enum-told-2
-    is-letter-or-digit-requires
-    returns-3
-    enum-told-3
-    is-letter-or-digit-requires-2
-    returns-4
-    is-joiner-requires
-    returns-5
-    enum-told-4
-    is-letter-or-digit-requires-3
-    returns-6
-    enum-told-5
-    returns-7
-    returns-8
-    returns-9
-    returns-10
-    returns-11)
+    tie.close (tie.spec enum-told returns is-letter-requires returns-2 enum-told-2 is-letter-or-digit-requires returns-3
+    enum-told-3 is-letter-or-digit-requires-2 returns-4 is-joiner-requires returns-5 enum-told-4
+    is-letter-or-digit-requires-3 returns-6 enum-told-5 returns-7 returns-8 returns-9 returns-10 returns-11)

@@ -1,4 +1,4 @@
--- made by tools/proof.py from answers/values/+read_container+read_identifier+read_value (answers 5f3067e53e32, proof 2d59583056d4): edit that file, not this one
+-- made by tools/proof.py from answers/values/+read_container+read_identifier+read_value (answers 5f3067e53e32, proof 7e65e4885348): edit that file, not this one
 use borrow.Author.Needs.{needs}
 use native.Mathlib.Omega.{arith}
 use mathlib.Core.Path.{_≡_, refl, sym, _∙_}

@@ -1,13 +1,11 @@
+-- made by tools/proof.py from answers/few/feed_few (answers 04f36badb66a, proof 315163b081bf): edit that file, not this one
+use borrow.Author.Needs.{needs}
 use native.Mathlib.Omega.{arith}
 use Rattle.text.specs.Bytes.{feed}
 use Rattle.text.specs.Utf8.{listed}
 use Rattle.text.proofs.FewLaws.{read-next}
-use borrow.Author.Needs.{needs}
 use Rattle.text.proofs.few.feed_few.Statement.{statement}
 use Rattle.text.proofs.few.feed_few.Tie as tie
-use Rattle.text.proofs.few.feed_few.Reads as reads
-use Rattle.text.proofs.few.feed_few.Lts as lts
-use Rattle.text.proofs.utf8.utf8_step.Reads as utf8-step-reads
 
 enum-told : tie.Need-enum-told
 enum-told c = search needs
@@ -52,7 +50,9 @@ utf8-step-requires-9 : tie.Need-utf8-step-requires-9
 utf8-step-requires-9 c κs = let p = read-next (c .before .before .before .before .before .args .u) _ _ (c .before .utf8-step7 .ensures) in let q = read-next (c .before .utf8-step7 .result) _ _ (c .utf8-step8 .ensures) in omega arith
 
 utf8-step-requires-10 : tie.Need-utf8-step-requires-10
-utf8-step-requires-10 c κs = let p = read-next (c .before .before .before .before .before .before .args .u) _ _ (c .before .before .utf8-step7 .ensures) in let q = read-next (c .before .before .utf8-step7 .result) _ _ (c .before .utf8-step8 .ensures) in let r = read-next (c .before .utf8-step8 .result) _ _ (c .utf8-step9 .ensures) in omega arith
+utf8-step-requires-10 c κs =
+    let the-utf8-step7 = c .before .before .utf8-step7 in
+    let p = read-next (c .before .before .before .before .before .before .args .u) _ _ (the-utf8-step7 .ensures) in let q = read-next (the-utf8-step7 .result) _ _ (c .before .utf8-step8 .ensures) in let r = read-next (c .before .utf8-step8 .result) _ _ (c .utf8-step9 .ensures) in omega arith
 
 returns : tie.Need-returns
 unfolding feed listed
@@ -76,25 +76,7 @@ returns-5 c = rw (c .before .before .before .before .before .f4 .given .1, ← c
 
 pub feed-few-spec : {M : Type 1} → statement M
 feed-few-spec =
-    tie.close
-    (tie.spec
-    enum-told
-    enum-known-f
-    utf8-step-requires
-    enum-known-f-2
-    utf8-step-requires-2
-    utf8-step-requires-3
-    enum-known-f-3
-    utf8-step-requires-4
-    utf8-step-requires-5
-    utf8-step-requires-6
-    enum-known-f-4
-    utf8-step-requires-7
-    utf8-step-requires-8
-    utf8-step-requires-9
-    utf8-step-requires-10
-    returns
-    returns-2
-    returns-3
-    returns-4
-    returns-5)
+    tie.close (tie.spec enum-told enum-known-f utf8-step-requires enum-known-f-2 utf8-step-requires-2
+    utf8-step-requires-3 enum-known-f-3 utf8-step-requires-4 utf8-step-requires-5 utf8-step-requires-6 enum-known-f-4
+    utf8-step-requires-7 utf8-step-requires-8 utf8-step-requires-9 utf8-step-requires-10 returns returns-2 returns-3
+    returns-4 returns-5)

@@ -1,10 +1,8 @@
-use native.Mathlib.Omega.{arith}
-use Rattle.text.specs.Utf8.{listed}
+-- made by tools/proof.py from answers/few/few_len (answers 1ed6aa9a4e55, proof 76973ab9ddb1): edit that file, not this one
 use borrow.Author.Needs.{needs}
+use Rattle.text.specs.Utf8.{listed}
 use Rattle.text.proofs.few.few_len.Statement.{statement}
 use Rattle.text.proofs.few.few_len.Tie as tie
-use Rattle.text.proofs.few.few_len.Reads as reads
-use Rattle.text.proofs.few.few_len.Lts as lts
 
 enum-told : tie.Need-enum-told
 enum-told c = search needs
@@ -43,15 +41,5 @@ returns-5 c = rw (c .enum-told5 .given .1)
 
 pub few-len-spec : {M : Type 1} → statement M
 few-len-spec =
-    tie.close
-    (tie.spec
-    enum-told
-    enum-told-2
-    enum-told-3
-    enum-told-4
-    enum-told-5
-    returns
-    returns-2
-    returns-3
-    returns-4
+    tie.close (tie.spec enum-told enum-told-2 enum-told-3 enum-told-4 enum-told-5 returns returns-2 returns-3 returns-4
     returns-5)

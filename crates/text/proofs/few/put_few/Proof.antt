@@ -1,12 +1,11 @@
+-- made by tools/proof.py from answers/few/put_few (answers d1321014982d, proof 4344a605a90a): edit that file, not this one
+use borrow.Author.Needs.{needs}
 use native.Mathlib.Omega.{arith}
 use lib.ListN.{length-set}
 use native.Mathlib.Numerals.{towards-suc}
 use Rattle.text.specs.Utf8.{listed}
-use borrow.Author.Needs.{needs}
 use Rattle.text.proofs.few.put_few.Statement.{statement}
 use Rattle.text.proofs.few.put_few.Tie as tie
-use Rattle.text.proofs.few.put_few.Reads as reads
-use Rattle.text.proofs.few.put_few.Lts as lts
 
 enum-told : tie.Need-enum-told
 enum-told c = search needs
@@ -121,35 +120,8 @@ returns-5 c = rw (c .before .f4 .given .1) (simp towards-suc)
 
 pub put-few-spec : {M : Type 1} → statement M
 put-few-spec =
-    tie.close
-    (tie.spec
-    enum-told
-    enum-known-f
-    slice-write-out
-    enum-known-f-2
-    slice-write-out-2
-    add-out
-    slice-write-out-3
-    enum-known-f-3
-    slice-write-out-4
-    add-out-2
-    slice-write-out-5
-    add-out-3
-    slice-write-out-6
-    enum-known-f-4
-    slice-write-out-7
-    add-out-4
-    slice-write-out-8
-    add-out-5
-    slice-write-out-9
-    add-out-6
-    slice-write-out-10
-    returns
-    same-length
-    returns-2
-    same-length-2
-    returns-3
-    same-length-3
-    returns-4
-    same-length-4
+    tie.close (tie.spec enum-told enum-known-f slice-write-out enum-known-f-2 slice-write-out-2 add-out
+    slice-write-out-3 enum-known-f-3 slice-write-out-4 add-out-2 slice-write-out-5 add-out-3 slice-write-out-6
+    enum-known-f-4 slice-write-out-7 add-out-4 slice-write-out-8 add-out-5 slice-write-out-9 add-out-6
+    slice-write-out-10 returns same-length returns-2 same-length-2 returns-3 same-length-3 returns-4 same-length-4
     returns-5)

@@ -1,4 +1,4 @@
-use borrow.Author.Needs.{needs}
+-- made by tools/proof.py from answers/utf8/check_utf8 (answers 1ba9536ce74c, proof 31124046d080): edit that file, not this one
 use native.Mathlib.Omega.{arith}
 use mathlib.Core.Path.{_≡_, refl, sym, ap, _∙_}
 use Prim.Native.Nat.{_-_}
@@ -6,10 +6,6 @@ use lib.ListN.{length}
 use Rattle.text.proofs.EightLaws.{Checks, checks-start, checks-eight, passed, checks-passed, checks-stop, checks-end, eight-long}
 use Rattle.text.proofs.utf8.check_utf8.Statement.{statement}
 use Rattle.text.proofs.utf8.check_utf8.Tie as tie
-use Rattle.text.proofs.utf8.check_utf8.Reads as reads
-use Rattle.text.proofs.utf8.check_utf8.Lts as lts
-use Rattle.text.proofs.utf8.character_end.Reads as character-end-reads
-use Rattle.text.proofs.utf8.plain_eight.Reads as plain-eight-reads
 
 abbrev Inv-loop : tie.InvT-loop
 Inv-loop s i₀ eights₀ i eights = Checks s i eights
@@ -33,14 +29,19 @@ loop-less : tie.Need-loop-less Inv-loop μ-loop
 loop-less c = let l = eight-long (c .before .before .before .before .before .args .s .now) (c .before .before .before .loop .i) (sym (c .before .plain-eight .ensures) ∙ c .if1 .taken) in omega arith
 
 loop-again : tie.Need-loop-again Inv-loop μ-loop
-loop-again c = checks-eight (c .before .before .before .before .before .args .s .now) (c .before .before .before .loop .i) (c .before .before .before .loop .eights) (c .before .before .before .loop .inv) (sym (c .before .plain-eight .ensures) ∙ c .if1 .taken)
+loop-again c =
+    let the-loop = c .before .before .before .loop in
+    checks-eight (c .before .before .before .before .before .args .s .now) (the-loop .i) (the-loop .eights) (the-loop .inv) (sym (c .before .plain-eight .ensures) ∙ c .if1 .taken)
 
 character-end-requires : tie.Need-character-end-requires Inv-loop μ-loop
 character-end-requires c κs = omega arith
 
 returns : tie.Need-returns Inv-loop μ-loop
-returns c = checks-stop (c .before .before .before .before .before .before .before .args .s .now) (c .before .before .before .before .before .loop .i) (c .before .before .before .before .before .loop .eights) _ (c .before .before .before .before .before .loop .inv)
-    (passed (c .before .before .before .before .before .before .before .args .s .now) (c .before .before .before .before .before .loop .i) _ (omega arith) (sym (c .before .before .before .plain-eight .ensures) ∙ c .before .before .if1 .left) (c .before .character-end .ensures)) (c .if2 .taken)
+returns c =
+    let the-args = c .before .before .before .before .before .before .before .args in
+    let the-loop = c .before .before .before .before .before .loop in
+    checks-stop (the-args .s .now) (the-loop .i) (the-loop .eights) _ (the-loop .inv)
+    (passed (the-args .s .now) (the-loop .i) _ (omega arith) (sym (c .before .before .before .plain-eight .ensures) ∙ c .before .before .if1 .left) (c .before .character-end .ensures)) (c .if2 .taken)
 
 loop-less-2 : tie.Need-loop-less-2 Inv-loop μ-loop
 loop-less-2 c = let p = passed (c .before .before .before .before .before .before .before .args .s .now) (c .before .before .before .before .before .loop .i) _ (omega arith) (sym (c .before .before .before .plain-eight .ensures) ∙ c .before .before .if1 .left) (c .before .character-end .ensures) in
@@ -50,26 +51,16 @@ loop-less-2 c = let p = passed (c .before .before .before .before .before .befor
     omega arith
 
 loop-again-2 : tie.Need-loop-again-2 Inv-loop μ-loop
-loop-again-2 c = checks-passed (c .before .before .before .before .before .before .before .args .s .now) (c .before .before .before .before .before .loop .i) (c .before .before .before .before .before .loop .eights) _ (c .before .before .before .before .before .loop .inv)
-    (passed (c .before .before .before .before .before .before .before .args .s .now) (c .before .before .before .before .before .loop .i) _ (omega arith) (sym (c .before .before .before .plain-eight .ensures) ∙ c .before .before .if1 .left) (c .before .character-end .ensures))
+loop-again-2 c =
+    let the-args = c .before .before .before .before .before .before .before .args in
+    let the-loop = c .before .before .before .before .before .loop in
+    checks-passed (the-args .s .now) (the-loop .i) (the-loop .eights) _ (the-loop .inv)
+    (passed (the-args .s .now) (the-loop .i) _ (omega arith) (sym (c .before .before .before .plain-eight .ensures) ∙ c .before .before .if1 .left) (c .before .character-end .ensures))
 
 returns-2 : tie.Need-returns-2 Inv-loop μ-loop
 returns-2 c = checks-end (c .before .before .before .args .s .now) (c .before .loop .i) (c .before .loop .eights) (c .before .loop .inv) (omega arith)
 
 pub check-utf8-spec : {M : Type 1} → statement M
 check-utf8-spec =
-    tie.close
-    (tie.spec
-    Inv-loop
-    μ-loop
-    loop-holds
-    plain-eight-requires
-    add-i
-    add-eights
-    loop-less
-    loop-again
-    character-end-requires
-    returns
-    loop-less-2
-    loop-again-2
-    returns-2)
+    tie.close (tie.spec Inv-loop μ-loop loop-holds plain-eight-requires add-i add-eights loop-less loop-again
+    character-end-requires returns loop-less-2 loop-again-2 returns-2)

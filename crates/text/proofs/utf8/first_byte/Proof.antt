@@ -1,12 +1,10 @@
+-- made by tools/proof.py from answers/utf8/first_byte (answers be2ee8e49d76, proof 7da350ff7d90): edit that file, not this one
+use borrow.Author.Needs.{needs}
 use native.Mathlib.Omega.{arith}
 use borrow.Author.Tests.{le-leb, lt-leb, lt-ltb, le-ltb, eq-eqb, ne-eqb}
 use Rattle.text.specs.Utf8.{lead}
-use borrow.Author.Needs.{needs}
 use Rattle.text.proofs.utf8.first_byte.Statement.{statement}
 use Rattle.text.proofs.utf8.first_byte.Tie as tie
-use Rattle.text.proofs.utf8.first_byte.Reads as reads
-use Rattle.text.proofs.utf8.first_byte.Lts as lts
-use Rattle.text.proofs.utf8.begun.Reads as begun-reads
 
 add-t4 : tie.Need-add-t4
 add-t4 c = omega arith
@@ -81,25 +79,6 @@ returns-11 c = rw (lt-leb _ _ (c .before .before .before .before .before .before
 
 pub first-byte-spec : {M : Type 1} → statement M
 first-byte-spec =
-    tie.close
-    (tie.spec
-    add-t4
-    returns
-    returns-2
-    begun-requires
-    returns-3
-    begun-requires-2
-    returns-4
-    begun-requires-3
-    returns-5
-    begun-requires-4
-    returns-6
-    begun-requires-5
-    returns-7
-    begun-requires-6
-    returns-8
-    begun-requires-7
-    returns-9
-    begun-requires-8
-    returns-10
-    returns-11)
+    tie.close (tie.spec add-t4 returns returns-2 begun-requires returns-3 begun-requires-2 returns-4 begun-requires-3
+    returns-5 begun-requires-4 returns-6 begun-requires-5 returns-7 begun-requires-6 returns-8 begun-requires-7
+    returns-9 begun-requires-8 returns-10 returns-11)

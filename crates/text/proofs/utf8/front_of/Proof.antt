@@ -1,11 +1,9 @@
-use native.Mathlib.Omega.{arith}
+-- made by tools/proof.py from answers/utf8/front_of (answers a157f06322bb, proof c97b609f8e55): edit that file, not this one
+use borrow.Author.Needs.{needs}
 use mathlib.Core.Path.{sym, ap}
 use Rattle.text.specs.Utf8.{wholeFront}
-use borrow.Author.Needs.{needs}
 use Rattle.text.proofs.utf8.front_of.Statement.{statement}
 use Rattle.text.proofs.utf8.front_of.Tie as tie
-use Rattle.text.proofs.utf8.front_of.Reads as reads
-use Rattle.text.proofs.utf8.front_of.Lts as lts
 
 enum-known-u : tie.Need-enum-known-u
 enum-known-u c = search needs

@@ -1,11 +1,9 @@
-use native.Mathlib.Omega.{arith}
+-- made by tools/proof.py from answers/utf8/is_part (answers b020a9bac828, proof d902b12efbc0): edit that file, not this one
+use borrow.Author.Needs.{needs}
 use mathlib.Core.Path.{sym, ap}
 use Rattle.text.specs.Internal.{isPart}
-use borrow.Author.Needs.{needs}
 use Rattle.text.proofs.utf8.is_part.Statement.{statement}
 use Rattle.text.proofs.utf8.is_part.Tie as tie
-use Rattle.text.proofs.utf8.is_part.Reads as reads
-use Rattle.text.proofs.utf8.is_part.Lts as lts
 
 enum-told : tie.Need-enum-told
 enum-told c = search needs
@@ -29,4 +27,5 @@ unfolding isPart
 returns-3 c = sym (ap isPart (c .enum-told3 .given .1))
 
 pub is-part-spec : {M : Type 1} → statement M
-is-part-spec = tie.close (tie.spec enum-told enum-told-2 enum-told-3 returns returns-2 returns-3)
+is-part-spec =
+    tie.close (tie.spec enum-told enum-told-2 enum-told-3 returns returns-2 returns-3)

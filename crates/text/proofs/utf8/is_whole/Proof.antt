@@ -1,10 +1,8 @@
-use native.Mathlib.Omega.{arith}
-use Rattle.text.specs.Utf8.{isWhole}
+-- made by tools/proof.py from answers/utf8/is_whole (answers 912200ad2e76, proof 0dd51fa98490): edit that file, not this one
 use borrow.Author.Needs.{needs}
+use Rattle.text.specs.Utf8.{isWhole}
 use Rattle.text.proofs.utf8.is_whole.Statement.{statement}
 use Rattle.text.proofs.utf8.is_whole.Tie as tie
-use Rattle.text.proofs.utf8.is_whole.Reads as reads
-use Rattle.text.proofs.utf8.is_whole.Lts as lts
 
 enum-told : tie.Need-enum-told
 enum-told c = search needs
@@ -28,4 +26,5 @@ unfolding isWhole
 returns-3 c = rw (c .enum-told3 .given .1)
 
 pub is-whole-spec : {M : Type 1} → statement M
-is-whole-spec = tie.close (tie.spec enum-told enum-told-2 enum-told-3 returns returns-2 returns-3)
+is-whole-spec =
+    tie.close (tie.spec enum-told enum-told-2 enum-told-3 returns returns-2 returns-3)

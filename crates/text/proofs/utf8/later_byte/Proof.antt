@@ -1,11 +1,9 @@
+-- made by tools/proof.py from answers/utf8/later_byte (answers d9e9eea41dc6, proof 505d5b5891bd): edit that file, not this one
 use native.Mathlib.Omega.{arith}
 use mathlib.Core.Path.{_≡_, refl, sym, ap, _∙_}
 use Rattle.text.proofs.Utf8Laws.{later-last, later-more}
-use borrow.Author.Needs.{needs}
 use Rattle.text.proofs.utf8.later_byte.Statement.{statement}
 use Rattle.text.proofs.utf8.later_byte.Tie as tie
-use Rattle.text.proofs.utf8.later_byte.Reads as reads
-use Rattle.text.proofs.utf8.later_byte.Lts as lts
 
 add-t5 : tie.Need-add-t5
 add-t5 c = omega arith
@@ -26,4 +24,5 @@ returns-2 : tie.Need-returns-2
 returns-2 c = later-more _ _ _ (omega arith)
 
 pub later-byte-spec : {M : Type 1} → statement M
-later-byte-spec = tie.close (tie.spec add-t5 add-t6 returns add-t7 sub-t8 returns-2)
+later-byte-spec =
+    tie.close (tie.spec add-t5 add-t6 returns add-t7 sub-t8 returns-2)

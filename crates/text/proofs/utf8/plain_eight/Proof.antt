@@ -1,10 +1,9 @@
+-- made by tools/proof.py from answers/utf8/plain_eight (answers fd205c50b9c5, proof 52ebff214236): edit that file, not this one
+use borrow.Author.Needs.{needs}
 use native.Mathlib.Omega.{arith}
 use Rattle.text.proofs.EightLaws.{eight-or, eight-short}
-use borrow.Author.Needs.{needs}
 use Rattle.text.proofs.utf8.plain_eight.Statement.{statement}
 use Rattle.text.proofs.utf8.plain_eight.Tie as tie
-use Rattle.text.proofs.utf8.plain_eight.Reads as reads
-use Rattle.text.proofs.utf8.plain_eight.Lts as lts
 
 sub-if1 : tie.Need-sub-if1
 sub-if1 c = omega arith
@@ -58,27 +57,12 @@ shared-slice-read-all-8 : tie.Need-shared-slice-read-all-8
 shared-slice-read-all-8 c = search needs
 
 returns-2 : tie.Need-returns-2
-returns-2 c = eight-or (c .before .before .before .before .before .before .before .before .before .args .s .now) (c .before .before .before .before .before .before .before .before .before .args .i) (omega arith)
+returns-2 c =
+    let the-args = c .before .before .before .before .before .before .before .before .before .args in
+    eight-or (the-args .s .now) (the-args .i) (omega arith)
 
 pub plain-eight-spec : {M : Type 1} → statement M
 plain-eight-spec =
-    tie.close
-    (tie.spec
-    sub-if1
-    returns
-    shared-slice-read-all
-    add-all
-    shared-slice-read-all-2
-    add-all-2
-    shared-slice-read-all-3
-    add-all-3
-    shared-slice-read-all-4
-    add-all-4
-    shared-slice-read-all-5
-    add-all-5
-    shared-slice-read-all-6
-    add-all-6
-    shared-slice-read-all-7
-    add-all-7
-    shared-slice-read-all-8
-    returns-2)
+    tie.close (tie.spec sub-if1 returns shared-slice-read-all add-all shared-slice-read-all-2 add-all-2
+    shared-slice-read-all-3 add-all-3 shared-slice-read-all-4 add-all-4 shared-slice-read-all-5 add-all-5
+    shared-slice-read-all-6 add-all-6 shared-slice-read-all-7 add-all-7 shared-slice-read-all-8 returns-2)

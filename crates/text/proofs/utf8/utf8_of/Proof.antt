@@ -1,12 +1,10 @@
+-- made by tools/proof.py from answers/utf8/utf8_of (answers 00d578986086, proof 67662eb1ae55): edit that file, not this one
+use borrow.Author.Needs.{needs}
 use native.Mathlib.Omega.{arith}
 use borrow.Author.Tests.{le-leb, lt-leb}
 use Rattle.text.specs.Utf8.{encode}
-use borrow.Author.Needs.{needs}
 use Rattle.text.proofs.utf8.utf8_of.Statement.{statement}
 use Rattle.text.proofs.utf8.utf8_of.Tie as tie
-use Rattle.text.proofs.utf8.utf8_of.Reads as reads
-use Rattle.text.proofs.utf8.utf8_of.Lts as lts
-use Rattle.text.proofs.utf8.octet.Reads as octet-reads
 
 octet-requires : tie.Need-octet-requires
 octet-requires c κs = search needs
@@ -83,28 +81,6 @@ returns-4 c = rw (lt-leb _ _ (c .before .before .before .before .before .before 
 
 pub utf8-of-spec : {M : Type 1} → statement M
 utf8-of-spec =
-    tie.close
-    (tie.spec
-    octet-requires
-    returns
-    add-octet
-    octet-requires-2
-    add-octet-2
-    octet-requires-3
-    returns-2
-    add-octet-3
-    octet-requires-4
-    add-octet-4
-    octet-requires-5
-    add-octet-5
-    octet-requires-6
-    returns-3
-    add-octet-6
-    octet-requires-7
-    add-octet-7
-    octet-requires-8
-    add-octet-8
-    octet-requires-9
-    add-octet-9
-    octet-requires-10
-    returns-4)
+    tie.close (tie.spec octet-requires returns add-octet octet-requires-2 add-octet-2 octet-requires-3 returns-2
+    add-octet-3 octet-requires-4 add-octet-4 octet-requires-5 add-octet-5 octet-requires-6 returns-3 add-octet-6
+    octet-requires-7 add-octet-7 octet-requires-8 add-octet-8 octet-requires-9 add-octet-9 octet-requires-10 returns-4)

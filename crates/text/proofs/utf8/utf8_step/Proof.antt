@@ -1,14 +1,10 @@
-use native.Mathlib.Omega.{arith}
+-- made by tools/proof.py from answers/utf8/utf8_step (answers b710576430fc, proof f4960ae662ba): edit that file, not this one
+use borrow.Author.Needs.{needs}
 use borrow.Author.Tests.{le-leb, lt-leb, lt-ltb, le-ltb}
 use Rattle.text.specs.Utf8.{utf8Step}
 use Rattle.text.specs.Internal.{bytesRead}
-use borrow.Author.Needs.{needs}
 use Rattle.text.proofs.utf8.utf8_step.Statement.{statement}
 use Rattle.text.proofs.utf8.utf8_step.Tie as tie
-use Rattle.text.proofs.utf8.utf8_step.Reads as reads
-use Rattle.text.proofs.utf8.utf8_step.Lts as lts
-use Rattle.text.proofs.utf8.first_byte.Reads as first-byte-reads
-use Rattle.text.proofs.utf8.later_byte.Reads as later-byte-reads
 
 enum-known-u : tie.Need-enum-known-u
 enum-known-u c = search needs
@@ -49,15 +45,5 @@ returns-5 c = rw (c .before .u3 .given .1)
 
 pub utf8-step-spec : {M : Type 1} → statement M
 utf8-step-spec =
-    tie.close
-    (tie.spec
-    enum-known-u
-    first-byte-requires
-    enum-known-u-2
-    returns
-    later-byte-requires
-    returns-2
-    enum-known-u-3
-    returns-3
-    returns-4
-    returns-5)
+    tie.close (tie.spec enum-known-u first-byte-requires enum-known-u-2 returns later-byte-requires returns-2
+    enum-known-u-3 returns-3 returns-4 returns-5)
