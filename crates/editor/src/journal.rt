@@ -11,21 +11,21 @@ use text::span::Span;
 // The bytes of a trailer: three numbers of four bytes each.
 pub(crate) const TRAILER_BYTES: usize = 12;
 
-fn wide(b: u8) -> usize
-    ensures { λ r. ⌜ (r ≡ b) × (r < 256) ⌝ }
+fn wide(byte: u8) -> usize
+    ensures { λ r. ⌜ (r ≡ byte) × (r < 256) ⌝ }
 {
-    b as usize
+    byte as usize
 }
 
-// Writes the four low bytes of n over those of `dst` from `at` on.
-fn put_number(dst: &mut [u8], at: usize, n: usize)
+// Writes the four low bytes of a number over those of `dst` from `at` on.
+fn put_number(dst: &mut [u8], at: usize, number: usize)
     requires { ⌜ at + 4 ≤ length (now dst) ⌝ }
-    ensures { λ _. ⌜ now (dst .exit) ≡ overwritten at (le32 n) (now (dst .entry)) ⌝ }
+    ensures { λ _. ⌜ now (dst .exit) ≡ overwritten at (le32 number) (now (dst .entry)) ⌝ }
 {
-    dst[at] = (n % 256) as u8;
-    dst[at + 1] = (n / 256 % 256) as u8;
-    dst[at + 2] = (n / 65536 % 256) as u8;
-    dst[at + 3] = (n / 16777216 % 256) as u8;
+    dst[at] = (number % 256) as u8;
+    dst[at + 1] = (number / 256 % 256) as u8;
+    dst[at + 2] = (number / 65536 % 256) as u8;
+    dst[at + 3] = (number / 16777216 % 256) as u8;
 }
 
 // The number that stands in four bytes from `at` on.

@@ -16,6 +16,7 @@ use Rattle.literals.specs.Content.{content, decoded, startOf, decodeStep, mayEn
 use Rattle.literals.specs.declared.decoder.Decoder.the-variants.{Letters}
 use Rattle.lexer.specs.Token.{tokenContent}
 use Rattle.lexer.specs.Internal.{hasContent, Keyed}
+use Rattle.reader.specs.Reading.{maxText}
 use Rattle.reader.specs.Content.{part, isSpan, contentAlone, spanContent}
 
 -- a word is its own content, whatever its bytes
@@ -79,14 +80,14 @@ module _ (sw : Switches) (text : List ℕ) (start stop : ℕ) (bytes : List ℕ)
   unfolding isSpan
   past h k = off (rw (le-leb start stop h, lt-leb stop (length text) k))
 
-  pub long : start ≤ stop → stop ≤ length text → 65536 < stop - start → false ≡ sameContent (spanContent sw start stop text) (some bytes)
+  pub long : start ≤ stop → stop ≤ length text → maxText < stop - start → false ≡ sameContent (spanContent sw start stop text) (some bytes)
   unfolding isSpan
-  long h k l = off (rw (le-leb start stop h, le-leb stop (length text) k, lt-leb (stop - start) 65536 l))
+  long h k l = off (rw (le-leb start stop h, le-leb stop (length text) k, lt-leb (stop - start) maxText l))
 
-  pub spanned : start ≤ stop → stop ≤ length text → stop - start ≤ 65536
+  pub spanned : start ≤ stop → stop ≤ length text → stop - start ≤ maxText
       → sameContent (contentAlone sw (part start stop text)) (some bytes) ≡ sameContent (spanContent sw start stop text) (some bytes)
   unfolding spanContent isSpan
-  spanned h k l = rw (le-leb start stop h, le-leb stop (length text) k, le-leb (stop - start) 65536 l)
+  spanned h k l = rw (le-leb start stop h, le-leb stop (length text) k, le-leb (stop - start) maxText l)
 
 -- 0, 0 has no content
 pub nothing-there : (sw : Switches) (text bytes : List ℕ) → sameContent (spanContent sw 0 0 text) (some bytes) ≡ false

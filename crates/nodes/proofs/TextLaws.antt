@@ -122,7 +122,7 @@ module _ (sw : Switches) (s : List ℕ) where
         let q = I .stop-is in
         let a : t .start ≤ t .stop = omega arith in
         let b : t .stop ≤ length s = omega arith in
-        let d : t .stop - t .start ≤ 65536 = omega arith in
+        let d : t .stop - t .start ≤ maxText = omega arith in
         let n : t .stop - t .start ≡ suc (I .rest) = omega arith in
         ap (λ (x : Bool). cond x (cond (isWhole (utf8 (take (t .stop - t .start) here))) (tokenContent sw (take (t .stop - t .start) here)) none) none) span-true
         ∙ ap (λ (k : ℕ). cond (isWhole (utf8 (take k here))) (tokenContent sw (take k here)) none) n
@@ -136,5 +136,5 @@ module _ (sw : Switches) (s : List ℕ) where
             let q = I .stop-is in
             let a : t .start ≤ t .stop = omega arith in
             let b : t .stop ≤ length s = omega arith in
-            let d : t .stop - t .start ≤ 65536 = omega arith in
-            rw (le-leb (t .start) (t .stop) a, le-leb (t .stop) (length s) b, le-leb (t .stop - t .start) 65536 d)
+            let d : t .stop - t .start ≤ maxText = omega arith in
+            rw (le-leb (t .start) (t .stop) a, le-leb (t .stop) (length s) b, le-leb (t .stop - t .start) maxText d)

@@ -6,6 +6,7 @@ ghost use Rattle.reader.specs.Content.{contentAlone, spanContent};
 use lexer::token::content_is;
 use lexer::token::is_keyed;
 use literals::decoder::Body;
+use text::span::MAX_TEXT;
 use text::switches::Switches;
 use text::utf8::valid_front;
 
@@ -38,7 +39,7 @@ pub(crate) fn span_content_is(
     if text.len() < stop {
         return false;
     }
-    if 65536 < stop - start {
+    if MAX_TEXT < stop - start {
         return false;
     }
     token_content_is(sw, &text[start..stop], bytes)

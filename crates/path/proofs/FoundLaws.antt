@@ -10,7 +10,7 @@ use Rattle.text.specs.declared.switches.Switches.{Switches}
 use Rattle.text.specs.declared.refusal.Refusal.{Refusal}
 use Rattle.reader.specs.Tree.{Tree, size}
 use Rattle.reader.specs.Syntax.{Outcome, taken, refused}
-use Rattle.reader.specs.Reading.{reading, tableOf, nodeCount}
+use Rattle.reader.specs.Reading.{reading, tableOf, nodeCount, maxText, maxNodes}
 use Rattle.reader.proofs.PlaceBound.{PlaceWithin, place-law}
 use Rattle.reader.proofs.SizeLaws.{count-law}
 use Rattle.nodes.specs.Nodes.{nodeAt, Numbered}
@@ -53,14 +53,14 @@ module _ (sw : Switches) (text : List ℕ) (tree : Tree) where
 -- of a text with so many nodes: a node's number, or a place that can be packed with a refusal's number
 Fits : (nodes : ℕ) → Found → Type 0
 Fits nodes (F.At n) = n < nodes
-Fits nodes (F.Refused f) = f .place ≤ 65536
+Fits nodes (F.Refused f) = f .place ≤ maxText
 
-leads-fits : (nodes left : ℕ) (a : Found) → nodes ≤ 4096 → Leads nodes 0 left a → Fits nodes a
+leads-fits : (nodes left : ℕ) (a : Found) → nodes ≤ maxNodes → Leads nodes 0 left a → Fits nodes a
 unfolding Leads Fits
 leads-fits nodes left (F.At n) l h = h
 leads-fits nodes left (F.Refused f) l h = let b = h .1 in omega arith
 
-found-by : (sw : Switches) (text path : List ℕ) (o : Outcome) → nodeCount o ≤ 4096 → PlaceWithin 65536 o → Fits (nodeCount o) (found sw text path o)
+found-by : (sw : Switches) (text path : List ℕ) (o : Outcome) → nodeCount o ≤ maxNodes → PlaceWithin maxText o → Fits (nodeCount o) (found sw text path o)
 unfolding found nodeCount PlaceWithin Fits
 found-by sw text path (taken tree) l p =
     leads-fits (size tree) (length (steps path)) (follow sw text 0 0 tree (steps path)) l (found-leads sw text tree path)
@@ -77,7 +77,7 @@ module _ (sw : Switches) (words : ℕ) (text path : List ℕ) where
   unfolding Fits
   found-node n e = subst (Fits (nodeCount (reading sw words text))) (sym e) found-fits
 
-  -- a refusal's place is at most 65536: a step's number is below the count of nodes
-  pub found-place : (f : Refusal) → F.Refused f ≡ found sw text path (reading sw words text) → f .place ≤ 65536
+  -- a refusal's place can be packed: a step's number is below the count of nodes
+  pub found-place : (f : Refusal) → F.Refused f ≡ found sw text path (reading sw words text) → f .place ≤ maxText
   unfolding Fits
   found-place f e = subst (Fits (nodeCount (reading sw words text))) (sym e) found-fits

@@ -42,7 +42,7 @@ same-length : tie.Need-same-length
 same-length c = simp length-set
 
 returns : tie.Need-returns
-returns c = number-put (c .args .dst .now) (c .args .at) (c .args .n) (omega arith)
+returns c = number-put (c .args .dst .now) (c .args .at) (c .args .number) (omega arith)
 
 pub put-number-spec : {M : Type 1} → statement M
 put-number-spec =
