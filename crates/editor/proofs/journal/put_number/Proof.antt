@@ -1,4 +1,4 @@
--- made by tools/proof.py from answers/journal/put_number (answers 8dd3f3335ffd, proof a8d61b86a729): edit that file, not this one
+-- made by tools/proof.py from answers/journal/put_number (answers 4b6eaee8e67a, proof 9c316a9487ae): edit that file, not this one
 use native.Mathlib.Omega.{arith}
 use lib.ListN.{length-set}
 use Rattle.editor.proofs.JournalLaws.{number-put}
