@@ -23,12 +23,15 @@ use summary::summary::Summary;
 use text::refusal::Refusal;
 use text::utf8::check_utf8;
 
+// What a refusal's number is multiplied by, so that its place can be added.
+const FACTOR: u64 = 4294967296;
+
 // A refusal as one number: its own times 4294967296, plus its place.
 fn packed(refusal: Refusal) -> u64
     requires { ⌜ refusal .place ≤ maxText ⌝ }
     ensures { λ r. ⌜ r ≡ packed refusal ⌝ }
 {
-    refusal.number as u64 * 4294967296 + refusal.place as u64
+    refusal.number as u64 * FACTOR + refusal.place as u64
 }
 
 // Checks bytes as UTF-8: the length of their longest front that is. `eights` is then how many times the check passed over eight bytes below

@@ -17,7 +17,7 @@ use Rattle.reader.specs.Syntax.{Outcome, taken, refused}
 use Rattle.reader.specs.Reading.{reading, reads, isTaken, nodeCount, oneValue, maxText}
 use Rattle.reader.proofs.LimitLaws.{Limit, deep, many, Fair}
 use Rattle.reader.proofs.ReplaceLaws.{replaced-reading}
-use Rattle.editor.specs.Edit.{Lent, lentOf, inUse, Result, textOf, splice, noRoom, badLength, lengthRefused, resultOf, decided, startOf, stopOf, corrected, entryOf, correctionRefusal, withCorrection, correct}
+use Rattle.editor.specs.Edit.{Lent, lentOf, inUse, Result, textOf, splice, noRoom, badLength, lengthRefused, resultOf, decided, valueStart, valueStop, corrected, entryOf, correctionRefusal, withCorrection, correct}
 use Rattle.editor.proofs.CallLaws.{once-read}
 use Rattle.editor.proofs.Computing.{editing}
 
@@ -44,7 +44,7 @@ module _ (sw : Switches) (words : ℕ) where
       → oneValue sw (ltb 0 node) replacement ≡ true
       → noRoom (corrected sw words node replacement text) room ≡ false
       → OnlyLimits (reading sw words (corrected sw words node replacement text))
-  unfolding corrected splice startOf stopOf noRoom
+  unfolding corrected splice valueStart valueStop noRoom
   corrected-reading node replacement text room h no-12 no-13 no-14 =
       let k = leb-false (nodeCount (reading sw words text)) node no-12 in
       let l = ltb-false (min room maxText) (length (corrected sw words node replacement text)) no-14 in

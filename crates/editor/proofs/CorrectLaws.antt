@@ -19,7 +19,7 @@ use Rattle.reader.proofs.SpanLaws.{span-law}
 use Rattle.editor.specs.declared.change.Verdict.the-variants as A
 use Rattle.editor.specs.declared.change.Change.{Change}
 use Rattle.editor.specs.declared.trial.Present.{Present}
-use Rattle.editor.specs.Edit.{Lent, lentOf, Result, textOf, splice, trailer, trailerBytes, entry, withText, overwritten, decided, startOf, stopOf, corrected, entryOf, correctionRefusal, withCorrection, correct}
+use Rattle.editor.specs.Edit.{Lent, lentOf, Result, textOf, splice, trailer, trailerBytes, entry, withText, overwritten, decided, valueStart, valueStop, corrected, entryOf, correctionRefusal, withCorrection, correct}
 use Rattle.editor.specs.Internal.{changed, Knows, ReadNow, Stopped, changeRefusal, withReplacement, Within, Judged, replaced, correctedRead}
 use Rattle.editor.proofs.SpliceLaws.{length-part, take-withText}
 use Rattle.editor.proofs.EntryLaws.{length-trailer}
@@ -119,16 +119,16 @@ module _ (p : Present) (text journal : List ℕ) (node : ℕ) (replacement table
     refused-13 e = rw (lt-leb (nodeCount (reading (p .sw) words (textOf lent))) node is-node, e)
 
     module _ (span : Span) (a : span .start ≡ wordOf table node 2) (z : span .stop ≡ wordOf table node 3) where
-      start-is : span .start ≡ startOf (p .sw) words node (textOf lent)
-      unfolding startOf
+      start-is : span .start ≡ valueStart (p .sw) words node (textOf lent)
+      unfolding valueStart
       start-is = a ∙ ap (λ (t : List ℕ). wordOf t node 2) (known .table-now .table-is)
 
-      stop-is : span .stop ≡ stopOf (p .sw) words node (textOf lent)
-      unfolding stopOf
+      stop-is : span .stop ≡ valueStop (p .sw) words node (textOf lent)
+      unfolding valueStop
       stop-is = z ∙ ap (λ (t : List ℕ). wordOf t node 3) (known .table-now .table-is)
 
       pub value-within : Within p span
-      unfolding startOf stopOf textOf
+      unfolding valueStart valueStop textOf
       value-within =
           let s = span-law (p .sw) words node (take (p .used .text) text) is-node in
           let q₁ = start-is in

@@ -13,7 +13,7 @@ use Rattle.text.specs.declared.switches.Switches.{Switches}
 use Rattle.reader.specs.Reading.{reads, maxText}
 use Rattle.reader.specs.Content.{part}
 use Rattle.reader.proofs.SpanLaws.{span-law}
-use Rattle.editor.specs.Edit.{Lent, textOf, journalOf, splice, trailerBytes, startOf, stopOf, corrected, trailer, entry, entryOf, withText, noRoom, entryStart, entryNew, entrySize, badEntry, oldBytes, undone, undoRefusal, withUndo}
+use Rattle.editor.specs.Edit.{Lent, textOf, journalOf, splice, trailerBytes, valueStart, valueStop, corrected, trailer, entry, entryOf, withText, noRoom, entryStart, entryNew, entrySize, badEntry, oldBytes, undone, undoRefusal, withUndo}
 use Rattle.editor.specs.Book.{Correction, Room, bookText, bookJournal}
 use Rattle.editor.proofs.SpliceLaws.{length-part, splice-back, length-splice, length-withText, take-withText}
 use Rattle.editor.proofs.EntryLaws.{length-trailer, trailer-start, trailer-new, trailer-size}
@@ -39,16 +39,16 @@ module _ (sw : Switches) (room : Room) (first : List ℕ) where
   -- the last correction in force: its entry is the journal's last, and what it puts back is the text before
   module _ (c : Correction) (cs : List Correction) (force : B.AllAccepted sw room first (c ∷ cs)) where
     abbrev from : ℕ
-    from = startOf sw W (c .node) (text-of cs)
+    from = valueStart sw W (c .node) (text-of cs)
 
     abbrev to : ℕ
-    to = stopOf sw W (c .node) (text-of cs)
+    to = valueStop sw W (c .node) (text-of cs)
 
     abbrev front : List ℕ
     front = journal-of cs ++ part from to (text-of cs)
 
     spanned : (from ≤ to) × (to ≤ length (text-of cs))
-    unfolding B.AllAccepted startOf stopOf
+    unfolding B.AllAccepted valueStart valueStop
     spanned = span-law sw W (c .node) (text-of cs) (force .1)
 
     short : length (text-of cs) ≤ maxText

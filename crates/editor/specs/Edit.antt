@@ -201,20 +201,20 @@ module _ (sw : Switches) (words : ℕ) where
   -- ---- corrections
 
   -- word 2 of a node, its value's start, in the reading of a text
-  unfoldable pub startOf : (node : ℕ) → List ℕ → ℕ
-  startOf node text = wordOf (tableOf words (reading sw words text)) node 2
+  unfoldable pub valueStart : (node : ℕ) → List ℕ → ℕ
+  valueStart node text = wordOf (tableOf words (reading sw words text)) node 2
 
   -- word 3 of it, the value's end
-  unfoldable pub stopOf : (node : ℕ) → List ℕ → ℕ
-  stopOf node text = wordOf (tableOf words (reading sw words text)) node 3
+  unfoldable pub valueStop : (node : ℕ) → List ℕ → ℕ
+  valueStop node text = wordOf (tableOf words (reading sw words text)) node 3
 
   -- a text with a node's value, "words 2 to 3", replaced
   unfoldable pub corrected : (node : ℕ) (replacement text : List ℕ) → List ℕ
-  corrected node replacement text = splice (startOf node text) (stopOf node text) replacement text
+  corrected node replacement text = splice (valueStart node text) (valueStop node text) replacement text
 
   -- "The journal gains the old bytes, then a trailer that points back"
   unfoldable pub entryOf : (node : ℕ) (replacement text : List ℕ) → List ℕ
-  entryOf node replacement text = entry (startOf node text) (stopOf node text) replacement text
+  entryOf node replacement text = entry (valueStart node text) (valueStop node text) replacement text
 
   -- "12; 13; 14 (new length over the buffer or 65,536); 15; 16", or 0; "for node 0 it must be a root"
   unfoldable pub correctionRefusal : Lent → (node : ℕ) (replacement : List ℕ) → ℕ

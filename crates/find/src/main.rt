@@ -9,9 +9,12 @@ mod answer;
 use console::input;
 use libc::STDERR_FILENO;
 
-// Asks the text by the path. Linux hands over no argument that is longer than this buffer.
+// The room for the path: Linux hands over no argument that is longer.
+const PATH_ROOM: usize = 131072;
+
+// Asks the text by the path.
 fn ask(text: &[u8]) {
-    let mut path = [0u8; 131072];
+    let mut path = [0u8; PATH_ROOM];
     let length = os::arg(2, &mut path);
     if os::errno() != 0 {
         os::fail(b"the path");

@@ -13,7 +13,7 @@ use lib.IntN.{ℤ}
 use lib.ListN.{length, take, drop, length-drop}
 use lib.Seq.{drop-drop}
 use Rattle.text.specs.declared.switches.Switches.{Switches}
-use Rattle.text.specs.Bytes.{front, begins, Class, classOf, isWordByte, isNumberByte, is, ascii}
+use Rattle.text.specs.Bytes.{front, startsWith, Class, classOf, isWordByte, isNumberByte, is, ascii}
 use Rattle.text.proofs.Choice.{cond-both, both-left, both-right}
 use Rattle.literals.specs.declared.decoder.Body.{Body}
 use Rattle.literals.specs.declared.decoder.Body.the-variants as Y
@@ -38,11 +38,11 @@ unfolding front
 front-le p [] = zero-le
 front-le p (b ∷ s) = cond-both (λ (n : ℕ). n ≤ suc (length s)) (p b) (λ _. suc-le-suc (front-le p s)) (λ _. zero-le)
 
-pub begins-le : (xs s : List ℕ) → T (begins xs s) → length xs ≤ length s
-unfolding begins
+pub begins-le : (xs s : List ℕ) → T (startsWith xs s) → length xs ≤ length s
+unfolding startsWith
 begins-le [] s t = zero-le
 begins-le (x ∷ xs) [] t = absurd t
-begins-le (x ∷ xs) (b ∷ s) t = suc-le-suc (begins-le xs s (both-right (eqb b x) (begins xs s) t))
+begins-le (x ∷ xs) (b ∷ s) t = suc-le-suc (begins-le xs s (both-right (eqb b x) (startsWith xs s) t))
 
 -- ---- the kinds
 
@@ -110,7 +110,7 @@ module _ (sw : Switches) (b : ℕ) (s : List ℕ) (P : Item → Type 0) (X : Cas
   raw-case isText head h =
       let l = drop head s in
       let j = hashCount l in
-      cond-both P (begins (ascii "\"") (drop j l))
+      cond-both P (startsWith (ascii "\"") (drop j l))
       (λ t.
       let e = begins-le (ascii "\"") (drop j l) t in
       let d = length-drop j l in
@@ -155,19 +155,19 @@ module _ (sw : Switches) (b : ℕ) (s : List ℕ) (P : Item → Type 0) (X : Cas
   small-case : P (smallItem sw b s)
   unfolding smallItem
   small-case =
-      cond-both P (is "b" b && begins (ascii "\"") s)
+      cond-both P (is "b" b && startsWith (ascii "\"") s)
       (λ t.
       let e = begins-le (ascii "\"") s (both-right (is "b" b) _ t) in
       string-case false Y.Quoted 1 0 (omega arith))
-      (λ _. cond-both P (is "b" b && sw .base64 && begins (ascii "64\"") s)
+      (λ _. cond-both P (is "b" b && sw .base64 && startsWith (ascii "64\"") s)
       (λ t.
       let e = begins-le (ascii "64\"") s (both-right (is "b" b && sw .base64) _ t) in
       string-case false Y.Base64 3 0 (omega arith))
       (λ _. cond-both P (is "r" b && opensRaw s)
       (λ _. raw-case true 0 zero-le)
-      (λ _. cond-both P (is "b" b && begins (ascii "r") s && opensRaw (drop 1 s))
+      (λ _. cond-both P (is "b" b && startsWith (ascii "r") s && opensRaw (drop 1 s))
       (λ t.
-      let e = begins-le (ascii "r") s (both-right (is "b" b) _ (both-left (is "b" b && begins (ascii "r") s) _ t)) in
+      let e = begins-le (ascii "r") s (both-right (is "b" b) _ (both-left (is "b" b && startsWith (ascii "r") s) _ t)) in
       raw-case false 1 (omega arith))
       (λ _. word-case))))
 

@@ -11,7 +11,7 @@ use lib.Dec.{eqb}
 use lib.ListN.{length, drop}
 use borrow.Author.Tests.{eqb-true}
 use Rattle.text.specs.declared.switches.Switches.{Switches}
-use Rattle.text.specs.Bytes.{begins, Class, classOf, isWordByte, isLetterOrDigit, is, ascii}
+use Rattle.text.specs.Bytes.{startsWith, Class, classOf, isWordByte, isLetterOrDigit, is, ascii}
 use Rattle.text.proofs.Choice.{cond-case, cond-true, cond-false, and-left, and-right, and-off}
 use Rattle.literals.specs.declared.decoder.Body.the-variants as Y
 use Rattle.lexer.specs.Token.{mark, Item, stringItem, hashCount, rawItem, opensRaw, wordItem, numberItem, smallItem, itemOf, item}
@@ -36,8 +36,8 @@ Opening [] z z′ = Unit {0}
 Opening (e ∷ []) z z′ = Seam (λ b. eqb b e) z z′
 Opening (e ∷ f ∷ w) z z′ = (isWordByte e ≡ true) × Opening (f ∷ w) z z′
 
-begins-one : (e : ℕ) (z : List ℕ) → begins (e ∷ []) z ≡ heads (λ b. eqb b e) z
-unfolding begins heads
+begins-one : (e : ℕ) (z : List ℕ) → startsWith (e ∷ []) z ≡ heads (λ b. eqb b e) z
+unfolding startsWith heads
 begins-one e [] = refl
 begins-one e (c ∷ z) = id (eqb c e)
   where
@@ -45,22 +45,22 @@ begins-one e (c ∷ z) = id (eqb c e)
     id true = refl
     id false = refl
 
-begins-word : (e : ℕ) (w z : List ℕ) → isWordByte e ≡ true → heads isWordByte z ≡ false → begins (e ∷ w) z ≡ false
-unfolding begins heads
+begins-word : (e : ℕ) (w z : List ℕ) → isWordByte e ≡ true → heads isWordByte z ≡ false → startsWith (e ∷ w) z ≡ false
+unfolding startsWith heads
 begins-word e w [] p q = refl
 begins-word e w (c ∷ z) p q = on (eqb c e) refl
   where
-    on : (t : Bool) → eqb c e ≡ t → eqb c e && begins w z ≡ false
+    on : (t : Bool) → eqb c e ≡ t → eqb c e && startsWith w z ≡ false
     on true k = no-false (sym p ∙ ap isWordByte (sym (eqb-true c e k)) ∙ q)
-    on false k = and-off (eqb c e) (begins w z) k
+    on false k = and-off (eqb c e) (startsWith w z) k
 
-begins-tail : (e : ℕ) (w x z z′ : List ℕ) (a : ℕ) → (begins w (x ++ z) ≡ false → begins w (x ++ z′) ≡ false)
-    → begins (e ∷ w) (a ∷ (x ++ z)) ≡ false → begins (e ∷ w) (a ∷ (x ++ z′)) ≡ false
-unfolding begins
-begins-tail e w x z z′ a f h = and-false (eqb a e) (begins w (x ++ z)) (begins w (x ++ z′)) f h
+begins-tail : (e : ℕ) (w x z z′ : List ℕ) (a : ℕ) → (startsWith w (x ++ z) ≡ false → startsWith w (x ++ z′) ≡ false)
+    → startsWith (e ∷ w) (a ∷ (x ++ z)) ≡ false → startsWith (e ∷ w) (a ∷ (x ++ z′)) ≡ false
+unfolding startsWith
+begins-tail e w x z z′ a f h = and-false (eqb a e) (startsWith w (x ++ z)) (startsWith w (x ++ z′)) f h
 
-begins-false : (w x z z′ : List ℕ) → Opening w z z′ → heads isWordByte z′ ≡ false → begins w (x ++ z) ≡ false → begins w (x ++ z′) ≡ false
-unfolding begins Opening
+begins-false : (w x z z′ : List ℕ) → Opening w z z′ → heads isWordByte z′ ≡ false → startsWith w (x ++ z) ≡ false → startsWith w (x ++ z′) ≡ false
+unfolding startsWith Opening
 begins-false [] x z z′ o q h = no-false h
 begins-false (e ∷ []) [] z z′ o q h = begins-one e z′ ∙ o (sym (begins-one e z) ∙ h)
 begins-false (e ∷ []) (a ∷ x) z z′ o q h = begins-tail e [] x z z′ a (λ k. no-false k) h
@@ -70,7 +70,7 @@ begins-false (e ∷ f ∷ w) (a ∷ x) z z′ o q h = begins-tail e (f ∷ w) x 
 opens-false : (x z z′ : List ℕ) → WordSeam z z′ → heads isWordByte z′ ≡ false → opensRaw (x ++ z) ≡ false → opensRaw (x ++ z′) ≡ false
 unfolding opensRaw Opening
 opens-false x z z′ s q h =
-    or-false (begins (ascii "\"") (x ++ z)) (begins (ascii "#") (x ++ z)) (begins (ascii "\"") (x ++ z′)) (begins (ascii "#") (x ++ z′))
+    or-false (startsWith (ascii "\"") (x ++ z)) (startsWith (ascii "#") (x ++ z)) (startsWith (ascii "\"") (x ++ z′)) (startsWith (ascii "#") (x ++ z′))
     (begins-false (ascii "\"") x z z′ (s .quote) q) (begins-false (ascii "#") x z z′ (s .hash) q) h
 
 opens-same : (x z z′ : List ℕ) → 1 ≤ length x → opensRaw (x ++ z′) ≡ opensRaw (x ++ z)
@@ -104,16 +104,16 @@ module _ (t₁ t₂ t₃ t₄ : Bool) (a₁ a₂ a₃ a₄ a₅ : Item) where
 
 module _ (sw : Switches) (b : ℕ) where
   test₁ : List ℕ → Bool
-  test₁ s = is "b" b && begins (ascii "\"") s
+  test₁ s = is "b" b && startsWith (ascii "\"") s
 
   test₂ : List ℕ → Bool
-  test₂ s = is "b" b && sw .base64 && begins (ascii "64\"") s
+  test₂ s = is "b" b && sw .base64 && startsWith (ascii "64\"") s
 
   test₃ : List ℕ → Bool
   test₃ s = is "r" b && opensRaw s
 
   test₄ : List ℕ → Bool
-  test₄ s = is "b" b && begins (ascii "r") s && opensRaw (drop 1 s)
+  test₄ s = is "b" b && startsWith (ascii "r") s && opensRaw (drop 1 s)
 
   small₁ : List ℕ → Item
   small₁ s = stringItem sw false Y.Quoted 1 0 (drop 1 s)
@@ -172,12 +172,12 @@ module _ (sw : Switches) (b : ℕ) where
   module _ (x z z′ : List ℕ) (s : WordSeam z z′) (q : heads isWordByte z′ ≡ false) where
     off₁ : test₁ (x ++ z) ≡ false → test₁ (x ++ z′) ≡ false
     unfolding test₁ Opening
-    off₁ h = and-false (is "b" b) (begins (ascii "\"") (x ++ z)) (begins (ascii "\"") (x ++ z′)) (begins-false (ascii "\"") x z z′ (s .quote) q) h
+    off₁ h = and-false (is "b" b) (startsWith (ascii "\"") (x ++ z)) (startsWith (ascii "\"") (x ++ z′)) (begins-false (ascii "\"") x z z′ (s .quote) q) h
 
     off₂ : test₂ (x ++ z) ≡ false → test₂ (x ++ z′) ≡ false
     unfolding test₂ Opening isWordByte isLetterOrDigit
     off₂ h =
-        and-false (is "b" b && sw .base64) (begins (ascii "64\"") (x ++ z)) (begins (ascii "64\"") (x ++ z′))
+        and-false (is "b" b && sw .base64) (startsWith (ascii "64\"") (x ++ z)) (startsWith (ascii "64\"") (x ++ z′))
         (begins-false (ascii "64\"") x z z′ (refl, (refl, s .quote)) q) h
 
     off₃ : test₃ (x ++ z) ≡ false → test₃ (x ++ z′) ≡ false
@@ -185,16 +185,16 @@ module _ (sw : Switches) (b : ℕ) where
     off₃ h = and-false (is "r" b) (opensRaw (x ++ z)) (opensRaw (x ++ z′)) (opens-false x z z′ s q) h
 
   off₄ : (x z z′ : List ℕ) → WordSeam z z′ → heads isWordByte z′ ≡ false → test₄ (x ++ z) ≡ false → test₄ (x ++ z′) ≡ false
-  unfolding test₄ isWordByte isLetterOrDigit begins
+  unfolding test₄ isWordByte isLetterOrDigit startsWith
   off₄ [] z z′ s q h =
-      and-off (is "b" b && begins (ascii "r") z′) (opensRaw (drop 1 z′))
-      (and-false (is "b" b) false (begins (ascii "r") z′) (λ _. begins-word 114 [] z′ refl q) (and-f (is "b" b)))
+      and-off (is "b" b && startsWith (ascii "r") z′) (opensRaw (drop 1 z′))
+      (and-false (is "b" b) false (startsWith (ascii "r") z′) (λ _. begins-word 114 [] z′ refl q) (and-f (is "b" b)))
     where
       and-f : (t : Bool) → t && false ≡ false
       and-f true = refl
       and-f false = refl
   off₄ (a ∷ x) z z′ s q h =
-      and-false (is "b" b && begins (ascii "r") (a ∷ (x ++ z))) (opensRaw (x ++ z)) (opensRaw (x ++ z′)) (opens-false x z z′ s q) h
+      and-false (is "b" b && startsWith (ascii "r") (a ∷ (x ++ z))) (opensRaw (x ++ z)) (opensRaw (x ++ z′)) (opens-false x z z′ s q) h
 
   same₁ : (x z z′ : List ℕ) → 1 ≤ length x → test₁ (x ++ z′) ≡ test₁ (x ++ z)
   unfolding test₁
@@ -214,15 +214,15 @@ module _ (sw : Switches) (b : ℕ) where
   r-off s t h =
       let e = eqb-true b 114 (and-left (is "r" b) (opensRaw s) h) in
       let f : is "b" b ≡ false = ap (is "b") e in
-      (and-off (is "b" b) (begins (ascii "\"") t) f, and-off (is "b" b && sw .base64) (begins (ascii "64\"") t) (and-off (is "b" b) (sw .base64) f))
+      (and-off (is "b" b) (startsWith (ascii "\"") t) f, and-off (is "b" b && sw .base64) (startsWith (ascii "64\"") t) (and-off (is "b" b) (sw .base64) f))
 
   -- behind `br` no `64`
   br-off : (a : ℕ) (y t : List ℕ) → test₄ (a ∷ y) ≡ true → test₂ (a ∷ t) ≡ false
-  unfolding test₂ test₄ begins
+  unfolding test₂ test₄ startsWith
   br-off a y t h =
       let k = and-right (is "b" b) (is "r" a && true) (and-left (is "b" b && (is "r" a && true)) (opensRaw y) h) in
       let e = eqb-true a 114 (and-left (is "r" a) true k) in
-      off (is "b" b && sw .base64) (is "6" a) (begins (ascii "4\"") t) (ap (is "6") e)
+      off (is "b" b && sw .base64) (is "6" a) (startsWith (ascii "4\"") t) (ap (is "6") e)
     where
       off : (u v w : Bool) → v ≡ false → u && (v && w) ≡ false
       off true v w e = and-off v w e
@@ -260,7 +260,7 @@ module _ (sw : Switches) (b : ℕ) where
         at₅ (x ++ z′) (off₁ x z z′ s q f) (off₂ x z z′ s q g) (off₃ x z z′ s q h) (off₄ x z z′ s q k) ∙ word-local b x z z′ n (s .byte) ∙ sym (at₅ (x ++ z) f g h k)
 
   go₄ : (x z z′ : List ℕ) → test₁ (x ++ z) ≡ false → test₂ (x ++ z) ≡ false → test₃ (x ++ z) ≡ false → test₄ (x ++ z) ≡ true → EndsAt (length x) (small₄ (x ++ z)) → Stays x z z′
-  unfolding Stays small₄ test₄ rawAt rawItem begins
+  unfolding Stays small₄ test₄ rawAt rawItem startsWith
   go₄ [] z z′ f g h e n = absurd (none z n)
     where
       none : (y : List ℕ) → EndsAt 0 (rawItem sw false 1 (drop 1 y)) → ⊥
@@ -268,7 +268,7 @@ module _ (sw : Switches) (b : ℕ) where
   go₄ (a ∷ x) z z′ f g h e n =
       let w = small₄-local a x z z′ n in
       let l : 1 ≤ suc (length x) = omega arith in
-      let e′ : test₄ (a ∷ (x ++ z′)) ≡ true = ap (λ (t : Bool). is "b" b && begins (ascii "r") (a ∷ (x ++ z)) && t) (opens-same x z z′ (w .1)) ∙ e in
+      let e′ : test₄ (a ∷ (x ++ z′)) ≡ true = ap (λ (t : Bool). is "b" b && startsWith (ascii "r") (a ∷ (x ++ z)) && t) (opens-same x z z′ (w .1)) ∙ e in
       at₄ (a ∷ (x ++ z′)) (same₁ (a ∷ x) z z′ l ∙ f) (br-off a (x ++ z) (x ++ z′) e) (same₃ (a ∷ x) z z′ l ∙ h) e′ ∙ w .0 ∙ sym (at₄ (a ∷ (x ++ z)) f g h e)
 
   abbrev Fit : (x z z′ : List ℕ) → Item → Type 0

@@ -10,7 +10,7 @@ use lib.Dec.{eqb}
 use lib.ListN.{length, take, drop, length-drop}
 use lib.Seq.{take-append-le, drop-append-le}
 use Rattle.text.specs.declared.switches.Switches.{Switches}
-use Rattle.text.specs.Bytes.{feed, front, begins, is, ascii}
+use Rattle.text.specs.Bytes.{feed, front, startsWith, is, ascii}
 use Rattle.text.proofs.Choice.{cond-case, cond-true, cond-false}
 use Rattle.text.proofs.FeedLaws.{feed-stays, feed-append}
 use Rattle.literals.specs.declared.decoder.Body.{Body}
@@ -107,7 +107,7 @@ and-true true e = refl
 and-true false e = no-true e
 
 pub comment-local : (x z z′ : List ℕ) → EndsAt (length x) (comment (x ++ z)) → ItemSeam x (comment (x ++ z)) z z′ → comment (x ++ z′) ≡ comment (x ++ z)
-unfolding comment EndsAt blockItem ItemSeam begins
+unfolding comment EndsAt blockItem ItemSeam startsWith
 comment-local [] [] z′ h s = absurd h
 comment-local [] (c ∷ z) z′ h s =
     cond-case (EndsAt 0) (comment z′ ≡ comment (c ∷ z)) (is "/" c) h (λ _ q. absurd (omega arith))
@@ -218,29 +218,29 @@ opened-local sw isText body head x z z′ l h =
     subst (λ (n : ℕ). EndsAt n (put (drop head x ++ z))) e (subst (λ (y : List ℕ). EndsAt (length x) (put y)) (drop-append-le head x z l) h) in
     ap put (drop-append-le head x z′ l) ∙ string-local sw isText body head 0 (drop head x) z z′ r ∙ ap put (sym (drop-append-le head x z l))
 
-pub begins-same : (w x z z′ : List ℕ) → length w ≤ length x → begins w (x ++ z′) ≡ begins w (x ++ z)
-unfolding begins
+pub begins-same : (w x z z′ : List ℕ) → length w ≤ length x → startsWith w (x ++ z′) ≡ startsWith w (x ++ z)
+unfolding startsWith
 begins-same [] x z z′ h = refl
 begins-same (e ∷ w) [] z z′ h = absurd (omega arith)
 begins-same (e ∷ w) (a ∷ x) z z′ h = ap (λ (t : Bool). eqb a e && t) (begins-same w x z z′ (omega arith))
 
 -- a raw string with j hashes
 unfoldable pub rawAt : Switches → (isText : Bool) → (head j : ℕ) → List ℕ → Item
-rawAt sw isText head j s = cond (begins (ascii "\"") (drop j s)) (stringItem sw isText Y.Raw (head + j + 1) j (drop (j + 1) s)) (fault 3)
+rawAt sw isText head j s = cond (startsWith (ascii "\"") (drop j s)) (stringItem sw isText Y.Raw (head + j + 1) j (drop (j + 1) s)) (fault 3)
 
 module _ (sw : Switches) (isText : Bool) (head : ℕ) where
   pub raw-less : (n j : ℕ) (s : List ℕ) → EndsAt n (rawAt sw isText head j s) → head + j + 1 ≤ n
   unfolding rawAt EndsAt
   raw-less n j s h =
-      cond-case (EndsAt n) (head + j + 1 ≤ n) (begins (ascii "\"") (drop j s)) h
+      cond-case (EndsAt n) (head + j + 1 ≤ n) (startsWith (ascii "\"") (drop j s)) h
       (λ _ q. string-head sw isText Y.Raw (head + j + 1) j n (drop (j + 1) s) q) (λ _ q. absurd q)
 
   raw-at : (j : ℕ) (x z z′ : List ℕ) → j + 1 ≤ length x → EndsAt (head + length x) (rawAt sw isText head j (x ++ z))
       → rawAt sw isText head j (x ++ z′) ≡ rawAt sw isText head j (x ++ z)
   unfolding rawAt EndsAt
   raw-at j x z z′ l h =
-      cond-case (EndsAt (head + length x)) (rawAt sw isText head j (x ++ z′) ≡ rawAt sw isText head j (x ++ z)) (begins (ascii "\"") (drop j (x ++ z))) h
-      (λ e q. cond-true (begins (ascii "\"") (drop j (x ++ z′))) (lit (x ++ z′)) (fault 3) (same ∙ e) ∙ lits q ∙ sym (cond-true (begins (ascii "\"") (drop j (x ++ z))) (lit (x ++ z)) (fault 3) e))
+      cond-case (EndsAt (head + length x)) (rawAt sw isText head j (x ++ z′) ≡ rawAt sw isText head j (x ++ z)) (startsWith (ascii "\"") (drop j (x ++ z))) h
+      (λ e q. cond-true (startsWith (ascii "\"") (drop j (x ++ z′))) (lit (x ++ z′)) (fault 3) (same ∙ e) ∙ lits q ∙ sym (cond-true (startsWith (ascii "\"") (drop j (x ++ z))) (lit (x ++ z)) (fault 3) e))
       (λ _ q. absurd q)
     where
       lit : List ℕ → Item
@@ -249,11 +249,11 @@ module _ (sw : Switches) (isText : Bool) (head : ℕ) where
       split : (y : List ℕ) → drop (j + 1) (x ++ y) ≡ drop (j + 1) x ++ y
       split y = drop-append-le (j + 1) x y l
 
-      same : begins (ascii "\"") (drop j (x ++ z′)) ≡ begins (ascii "\"") (drop j (x ++ z))
+      same : startsWith (ascii "\"") (drop j (x ++ z′)) ≡ startsWith (ascii "\"") (drop j (x ++ z))
       same =
           let m : j ≤ length x = omega arith in
           let d = length-drop j x in
-          ap (begins (ascii "\"")) (drop-append-le j x z′ m) ∙ begins-same (ascii "\"") (drop j x) z z′ (omega arith) ∙ ap (begins (ascii "\"")) (sym (drop-append-le j x z m))
+          ap (startsWith (ascii "\"")) (drop-append-le j x z′ m) ∙ begins-same (ascii "\"") (drop j x) z z′ (omega arith) ∙ ap (startsWith (ascii "\"")) (sym (drop-append-le j x z m))
 
       lits : EndsAt (head + length x) (lit (x ++ z)) → lit (x ++ z′) ≡ lit (x ++ z)
       lits q =

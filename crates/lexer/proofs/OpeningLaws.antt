@@ -11,7 +11,7 @@ use lib.ListN.{length, drop, getD, length-drop}
 use lib.Seq.{drop-drop, drop-cons, getD-drop}
 use borrow.Author.Tests.{eq-eqb, ne-eqb, lt-ltb}
 use Rattle.text.specs.declared.switches.Switches.{Switches}
-use Rattle.text.specs.Bytes.{front, begins, is, Class, classOf, classNumber, oneOf}
+use Rattle.text.specs.Bytes.{front, startsWith, is, Class, classOf, classNumber, oneOf}
 use Rattle.text.proofs.Choice.{cond-both, both-right}
 use Rattle.text.proofs.ClassLaws.{classAt, class-by, quote-number}
 use Rattle.literals.specs.declared.decoder.Body.the-variants as Y
@@ -31,21 +31,21 @@ and-true true = refl
 and-true false = refl
 
 begins-next : (s : List ℕ) (i x : ℕ) (xs : List ℕ) → 0 < x
-    → begins (x ∷ xs) (drop i s) ≡ (eqb (getD s i 0) x && begins xs (drop (i + 1) s))
-unfolding begins
+    → startsWith (x ∷ xs) (drop i s) ≡ (eqb (getD s i 0) x && startsWith xs (drop (i + 1) s))
+unfolding startsWith
 begins-next [] zero x xs h = let n : 0 ≡ x → ⊥ = λ e. omega arith in rw (ne-eqb 0 x n)
 begins-next [] (suc i) x xs h = let n : 0 ≡ x → ⊥ = λ e. omega arith in rw (ne-eqb 0 x n)
 begins-next (y ∷ s) zero x xs h = refl
 begins-next (y ∷ s) (suc i) x xs h =
-    begins-next s i x xs h ∙ ap (λ (n : ℕ). eqb (getD s i 0) x && begins xs (drop n (y ∷ s))) (sym (suc-add i 1))
+    begins-next s i x xs h ∙ ap (λ (n : ℕ). eqb (getD s i 0) x && startsWith xs (drop n (y ∷ s))) (sym (suc-add i 1))
 
-begins-one : (s : List ℕ) (i x : ℕ) → 0 < x → begins (x ∷ []) (drop i s) ≡ eqb (getD s i 0) x
-unfolding begins
+begins-one : (s : List ℕ) (i x : ℕ) → 0 < x → startsWith (x ∷ []) (drop i s) ≡ eqb (getD s i 0) x
+unfolding startsWith
 begins-one s i x h = begins-next s i x [] h ∙ and-true (eqb (getD s i 0) x)
 
 -- `64"` from i on
 pub base64-at : (s : List ℕ) (i : ℕ)
-    → begins (54 ∷ 52 ∷ 34 ∷ []) (drop i s) ≡ (eqb (getD s i 0) 54 && (eqb (getD s (i + 1) 0) 52 && eqb (getD s (i + 2) 0) 34))
+    → startsWith (54 ∷ 52 ∷ 34 ∷ []) (drop i s) ≡ (eqb (getD s i 0) 54 && (eqb (getD s (i + 1) 0) 52 && eqb (getD s (i + 2) 0) 34))
 base64-at s i =
     let e : i + 1 + 1 ≡ i + 2 = omega arith in
     rw (begins-next s i 54 (52 ∷ 34 ∷ []) (omega arith), begins-next s (i + 1) 52 (34 ∷ []) (omega arith), begins-one s (i + 1 + 1) 34 (omega arith), e)
@@ -60,7 +60,7 @@ raw-at isText before s from k q k-is q-is = rw (← k-is, drop-drop k from s, �
 module _ (sw : Switches) (s : List ℕ) (i : ℕ) where
   pub bytes-at : bytesOpening sw (drop i s)
       ≡ cond (eqb (getD s i 0) 34) (stringOpening false Y.Quoted 2 0)
-      (cond (sw .base64 && begins (54 ∷ 52 ∷ 34 ∷ []) (drop i s)) (stringOpening false Y.Base64 4 0)
+      (cond (sw .base64 && startsWith (54 ∷ 52 ∷ 34 ∷ []) (drop i s)) (stringOpening false Y.Base64 4 0)
       (cond (eqb (getD s i 0) 114) (rawOpening false 2 (drop (i + 1) s)) O.Nothing))
   unfolding bytesOpening
   bytes-at = rw (begins-one s i 34 (omega arith), begins-one s i 114 (omega arith), drop-drop 1 i s)
@@ -83,27 +83,27 @@ Reaches n O.Nothing = Unit {0}
 raw-reaches : (isText : Bool) (before n : ℕ) (s : List ℕ) → before + length s ≤ n → Reaches n (rawOpening isText before s)
 unfolding rawOpening Reaches
 raw-reaches isText before n s h =
-    cond-both (Reaches n) (begins (34 ∷ []) (drop (hashCount s) s))
+    cond-both (Reaches n) (startsWith (34 ∷ []) (drop (hashCount s) s))
     (λ t. let l = begins-le (34 ∷ []) (drop (hashCount s) s) t in let d = length-drop (hashCount s) s in (omega arith, omega arith))
     (λ _. cond-both (Reaches n) (eqb (hashCount s) 0) (λ _. tt) (λ _. tt))
 
 bytes-reaches : (sw : Switches) (n : ℕ) (s : List ℕ) → 1 + length s ≤ n → Reaches n (bytesOpening sw s)
 unfolding bytesOpening Reaches
 bytes-reaches sw n s h =
-    cond-both (Reaches n) (begins (34 ∷ []) s) (λ t. let l = begins-le (34 ∷ []) s t in (omega arith, omega arith))
-    (λ _. cond-both (Reaches n) (sw .base64 && begins (54 ∷ 52 ∷ 34 ∷ []) s)
-    (λ t. let l = begins-le (54 ∷ 52 ∷ 34 ∷ []) s (both-right (sw .base64) (begins (54 ∷ 52 ∷ 34 ∷ []) s) t) in (omega arith, omega arith))
-    (λ _. cond-both (Reaches n) (begins (114 ∷ []) s)
+    cond-both (Reaches n) (startsWith (34 ∷ []) s) (λ t. let l = begins-le (34 ∷ []) s t in (omega arith, omega arith))
+    (λ _. cond-both (Reaches n) (sw .base64 && startsWith (54 ∷ 52 ∷ 34 ∷ []) s)
+    (λ t. let l = begins-le (54 ∷ 52 ∷ 34 ∷ []) s (both-right (sw .base64) (startsWith (54 ∷ 52 ∷ 34 ∷ []) s) t) in (omega arith, omega arith))
+    (λ _. cond-both (Reaches n) (startsWith (114 ∷ []) s)
     (λ t. let l = begins-le (114 ∷ []) s t in let d = length-drop 1 s in raw-reaches false 2 n (drop 1 s) (omega arith)) (λ _. tt)))
 
 reaches : (sw : Switches) (s : List ℕ) → Reaches (length s) (openingOf sw s)
 unfolding openingOf Reaches
 reaches sw s =
     let d = length-drop 1 s in
-    cond-both (Reaches (length s)) (begins (34 ∷ []) s) (λ t. let l = begins-le (34 ∷ []) s t in (omega arith, omega arith))
-    (λ _. cond-both (Reaches (length s)) (begins (98 ∷ []) s)
+    cond-both (Reaches (length s)) (startsWith (34 ∷ []) s) (λ t. let l = begins-le (34 ∷ []) s t in (omega arith, omega arith))
+    (λ _. cond-both (Reaches (length s)) (startsWith (98 ∷ []) s)
     (λ t. let l = begins-le (98 ∷ []) s t in bytes-reaches sw (length s) (drop 1 s) (omega arith))
-    (λ _. cond-both (Reaches (length s)) (begins (114 ∷ []) s)
+    (λ _. cond-both (Reaches (length s)) (startsWith (114 ∷ []) s)
     (λ t. let l = begins-le (114 ∷ []) s t in raw-reaches true 1 (length s) (drop 1 s) (omega arith)) (λ _. tt)))
 
 pub head-within : (sw : Switches) (s : List ℕ) (h : StringHead) → openingOf sw s ≡ O.String h
@@ -118,18 +118,18 @@ or-true true = refl
 or-true false = refl
 
 -- a quote behind the hashes, or some hash
-raw-tests : (t : List ℕ) → opensRaw t ≡ (begins (34 ∷ []) (drop (hashCount t) t) || not (eqb (hashCount t) 0))
-unfolding opensRaw begins hashCount front
+raw-tests : (t : List ℕ) → opensRaw t ≡ (startsWith (34 ∷ []) (drop (hashCount t) t) || not (eqb (hashCount t) 0))
+unfolding opensRaw startsWith hashCount front
 raw-tests [] = refl
 raw-tests (c ∷ t) = by (eqb c 35)
   where
     by : (x : Bool)
         → ((eqb c 34 && true) || (x && true))
-        ≡ (begins (34 ∷ []) (drop (cond x (suc (front (is "#") t)) 0) (c ∷ t)) || not (eqb (cond x (suc (front (is "#") t)) 0) 0))
+        ≡ (startsWith (34 ∷ []) (drop (cond x (suc (front (is "#") t)) 0) (c ∷ t)) || not (eqb (cond x (suc (front (is "#") t)) 0) 0))
     by true =
         let n : suc (front (is "#") t) ≡ 0 → ⊥ = λ e. omega arith in
-        sym (or-true (eqb c 34 && true)) ∙ or-true (begins (34 ∷ []) (drop (front (is "#") t) t))
-        ∙ ap (λ (x : Bool). begins (34 ∷ []) (drop (front (is "#") t) t) || not x) (sym (ne-eqb (suc (front (is "#") t)) 0 n))
+        sym (or-true (eqb c 34 && true)) ∙ or-true (startsWith (34 ∷ []) (drop (front (is "#") t) t))
+        ∙ ap (λ (x : Bool). startsWith (34 ∷ []) (drop (front (is "#") t) t) || not x) (sym (ne-eqb (suc (front (is "#") t)) 0 n))
     by false = refl
 
 module _ (sw : Switches) where
@@ -139,7 +139,7 @@ module _ (sw : Switches) where
   unfolding rawItem rawOpening openedItem
   raw-item isText k w t e =
       ap (λ (x : Bool). cond x (rawItem sw isText k t) (wordItem (getD w 0 0) (drop 1 w))) (raw-tests t)
-      ∙ by (begins (34 ∷ []) (drop (hashCount t) t)) (eqb (hashCount t) 0)
+      ∙ by (startsWith (34 ∷ []) (drop (hashCount t) t)) (eqb (hashCount t) 0)
     where
       n : ℕ
       n = hashCount t
@@ -157,7 +157,7 @@ module _ (sw : Switches) where
 
   small-b : (s : List ℕ) → smallItem sw 98 s ≡ openedItem sw (bytesOpening sw s) (98 ∷ s)
   unfolding smallItem bytesOpening openedItem
-  small-b s = by (begins (34 ∷ []) s) (sw .base64 && begins (54 ∷ 52 ∷ 34 ∷ []) s) (begins (114 ∷ []) s)
+  small-b s = by (startsWith (34 ∷ []) s) (sw .base64 && startsWith (54 ∷ 52 ∷ 34 ∷ []) s) (startsWith (114 ∷ []) s)
     where
       by : (q x r : Bool)
           → cond q (stringItem sw false Y.Quoted 1 0 (drop 1 s))
@@ -174,7 +174,7 @@ module _ (sw : Switches) where
   small-r s = raw-item true 0 (114 ∷ s) s refl
 
   small-opened : (b : ℕ) (s : List ℕ) → (b ≡ 34 → ⊥) → smallItem sw b s ≡ openedItem sw (openingOf sw (b ∷ s)) (b ∷ s)
-  unfolding smallItem openingOf begins openedItem
+  unfolding smallItem openingOf startsWith openedItem
   small-opened b s n = by-b (eqb b 98) refl
     where
       same : (c : ℕ) → eqb b c ≡ true → b ≡ c
@@ -199,7 +199,7 @@ module _ (sw : Switches) where
       no-quote q = let z : _≡_ {A = ℕ} 5 3 = ap (λ (x : ℕ). classNumber (classOf x)) (sym q) ∙ e in omega arith
 
   item-quote : (b : ℕ) (s : List ℕ) → classNumber (classOf b) ≡ 5 → item sw b s ≡ openedItem sw (openingOf sw (b ∷ s)) (b ∷ s)
-  unfolding item itemOf classOf classNumber oneOf openingOf begins openedItem
+  unfolding item itemOf classOf classNumber oneOf openingOf startsWith openedItem
   item-quote b s e = subst (λ (c : ℕ). item sw c s ≡ openedItem sw (openingOf sw (c ∷ s)) (c ∷ s)) (sym (quote-number b e)) refl
 
 -- the classes of the bytes that may open a string: small letters and the quote
@@ -224,7 +224,7 @@ module _ (sw : Switches) where
 
   -- where it may not, nothing does
   pub opening-none : (b : ℕ) (s : List ℕ) → mayOpen (classNumber (classOf b)) ≡ false → openingOf sw (b ∷ s) ≡ O.Nothing
-  unfolding mayOpen oneOf classOf classNumber openingOf begins
+  unfolding mayOpen oneOf classOf classNumber openingOf startsWith
   opening-none b s e = rw (ne-eqb b 34 (not-at 34 refl), ne-eqb b 98 (not-at 98 refl), ne-eqb b 114 (not-at 114 refl))
     where
       not-at : (c : ℕ) → mayOpen (classNumber (classOf c)) ≡ true → b ≡ c → ⊥

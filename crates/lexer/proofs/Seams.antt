@@ -4,7 +4,7 @@ use mathlib.Core.Path.{_≡_, refl}
 use Prim.Native.Nat.{ℕ}
 use mathlib.Core.Bool.{Bool, true, false, _||_}
 use mathlib.Core.List.{List, [], _∷_}
-use Rattle.text.specs.Bytes.{begins, isWordByte, isNumberByte, is, ascii}
+use Rattle.text.specs.Bytes.{startsWith, isWordByte, isNumberByte, is, ascii}
 use Rattle.text.proofs.Choice.{or-left, or-right}
 use Rattle.lexer.specs.Closing.{notNewline}
 use Rattle.lexer.specs.Token.{Form, mark, word, text, bytes, integer, decimal, Item, gap, token, fault}
@@ -42,7 +42,7 @@ FormSeam (decimal minus m p) z z′ = Seam isNumberByte z z′
 
 -- z′ may follow instead of z: a word and a number are the longest run, and a line comment is
 unfoldable pub ItemSeam : (x : List ℕ) → Item → (z z′ : List ℕ) → Type 0
-ItemSeam x (gap more) z z′ = begins (ascii "/") x ≡ true → Seam notNewline z z′
+ItemSeam x (gap more) z z′ = startsWith (ascii "/") x ≡ true → Seam notNewline z z′
 ItemSeam x (token form more) z z′ = FormSeam form z z′
 ItemSeam x (fault number) z z′ = Unit {0}
 

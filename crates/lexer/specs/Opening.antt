@@ -8,7 +8,7 @@ use mathlib.Core.List.{List}
 use lib.Dec.{eqb}
 use lib.ListN.{length, drop, getD}
 use Rattle.text.specs.declared.switches.Switches.{Switches}
-use Rattle.text.specs.Bytes.{begins, ascii}
+use Rattle.text.specs.Bytes.{startsWith, ascii}
 use Rattle.literals.specs.declared.decoder.Body.{Body}
 use Rattle.literals.specs.declared.decoder.Body.the-variants as Y
 use Rattle.lexer.specs.declared.opening.Opening.{Opening}
@@ -25,7 +25,7 @@ stringOpening isText body before hashes = O.String (record { «is_text» = isTex
 -- after `r` or `br`, which are `before` bytes: hashes and a quote open a raw string, and hashes with no quote behind them nothing else
 unfoldable pub rawOpening : (isText : Bool) → (before : ℕ) → List ℕ → Opening
 rawOpening isText before s =
-    cond (begins (ascii "\"") (drop (hashCount s) s)) (stringOpening isText Y.Raw (before + hashCount s + 1) (hashCount s))
+    cond (startsWith (ascii "\"") (drop (hashCount s) s)) (stringOpening isText Y.Raw (before + hashCount s + 1) (hashCount s))
     (cond (eqb (hashCount s) 0) O.Nothing
     O.Broken)
 
@@ -33,17 +33,17 @@ module _ (sw : Switches) where
   -- after a `b`
   unfoldable pub bytesOpening : List ℕ → Opening
   bytesOpening s =
-      cond (begins (ascii "\"") s) (stringOpening false Y.Quoted 2 0)
-      (cond (sw .base64 && begins (ascii "64\"") s) (stringOpening false Y.Base64 4 0)
-      (cond (begins (ascii "r") s) (rawOpening false 2 (drop 1 s))
+      cond (startsWith (ascii "\"") s) (stringOpening false Y.Quoted 2 0)
+      (cond (sw .base64 && startsWith (ascii "64\"") s) (stringOpening false Y.Base64 4 0)
+      (cond (startsWith (ascii "r") s) (rawOpening false 2 (drop 1 s))
       O.Nothing))
 
   -- "Strings open with `"`, `b"`, `b64"`, or `r` or `br` followed at once by any number of `#` and a quote."
   unfoldable pub openingOf : List ℕ → Opening
   openingOf s =
-      cond (begins (ascii "\"") s) (stringOpening true Y.Quoted 1 0)
-      (cond (begins (ascii "b") s) (bytesOpening (drop 1 s))
-      (cond (begins (ascii "r") s) (rawOpening true 1 (drop 1 s))
+      cond (startsWith (ascii "\"") s) (stringOpening true Y.Quoted 1 0)
+      (cond (startsWith (ascii "b") s) (bytesOpening (drop 1 s))
+      (cond (startsWith (ascii "r") s) (rawOpening true 1 (drop 1 s))
       O.Nothing))
 
   -- the item at the front of s, where this opens

@@ -9,7 +9,7 @@ use lib.Dec.{eqb}
 use lib.ListN.{length, take, drop, getD}
 use lib.IntN.{ℤ}
 use Rattle.text.specs.declared.switches.Switches.{Switches}
-use Rattle.text.specs.Bytes.{front, begins, classOf, Class, isWordByte, isNumberByte, is, ascii}
+use Rattle.text.specs.Bytes.{front, startsWith, classOf, Class, isWordByte, isNumberByte, is, ascii}
 use Rattle.literals.specs.declared.decoder.Body.{Body}
 use Rattle.literals.specs.declared.decoder.Body.the-variants as Y
 use Rattle.literals.specs.Content.{contentOf}
@@ -96,13 +96,13 @@ hashCount s = front (is "#") s
 -- after `r` or `br`: "any number of `#` and a quote"; "followed by `#` opens a raw string and nothing else"
 unfoldable pub rawItem : Switches → (isText : Bool) → (head : ℕ) → List ℕ → Item
 rawItem sw isText head s =
-    cond (begins (ascii "\"") (drop (hashCount s) s))
+    cond (startsWith (ascii "\"") (drop (hashCount s) s))
     (stringItem sw isText Y.Raw (head + hashCount s + 1) (hashCount s) (drop (hashCount s + 1) s))
     (fault 3)
 
 -- whether `r` or `br` opens a string: a hash or a quote follows
 unfoldable pub opensRaw : List ℕ → Bool
-opensRaw s = begins (ascii "\"") s || begins (ascii "#") s
+opensRaw s = startsWith (ascii "\"") s || startsWith (ascii "#") s
 
 -- ---- words
 
@@ -133,10 +133,10 @@ module _ (sw : Switches) where
   -- "A word opens .. where no string opens"
   unfoldable pub smallItem : ℕ → List ℕ → Item
   smallItem b s =
-      cond (is "b" b && begins (ascii "\"") s) (stringItem sw false Y.Quoted 1 0 (drop 1 s))
-      (cond (is "b" b && sw .base64 && begins (ascii "64\"") s) (stringItem sw false Y.Base64 3 0 (drop 3 s))
+      cond (is "b" b && startsWith (ascii "\"") s) (stringItem sw false Y.Quoted 1 0 (drop 1 s))
+      (cond (is "b" b && sw .base64 && startsWith (ascii "64\"") s) (stringItem sw false Y.Base64 3 0 (drop 3 s))
       (cond (is "r" b && opensRaw s) (rawItem sw true 0 s)
-      (cond (is "b" b && begins (ascii "r") s && opensRaw (drop 1 s)) (rawItem sw false 1 (drop 1 s))
+      (cond (is "b" b && startsWith (ascii "r") s && opensRaw (drop 1 s)) (rawItem sw false 1 (drop 1 s))
       (wordItem b s))))
 
   -- "A number opens with a digit, `+` or `-`"; "A word opens with a letter or `_`"; "A tick is refused with 6. Each bracket or mark is

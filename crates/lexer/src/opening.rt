@@ -4,7 +4,7 @@ ghost use mathlib.Core.Bool.{_&&_};
 ghost use mathlib.Core.List.{[], _∷_};
 ghost use Prim.Native.Nat.{_≤_, _<_, _+_};
 ghost use lib.ListN.{length, drop};
-ghost use Rattle.text.specs.Bytes.{begins};
+ghost use Rattle.text.specs.Bytes.{startsWith};
 ghost use Rattle.lexer.specs.Opening.{stringOpening, rawOpening, bytesOpening, openingOf};
 use super::runs::hashes_end;
 use literals::decoder::Body;
@@ -56,7 +56,7 @@ fn raw_opening(text: &[u8], from: usize, is_text: bool, before: usize) -> Openin
 
 // Whether `64"` stands at a place, in an edition where `b64"` opens a string.
 fn opens_base64(sw: Switches, text: &[u8], i: usize) -> bool
-    ensures { λ r. ⌜ r ≡ (sw .base64 && begins (54 ∷ 52 ∷ 34 ∷ []) (drop i (now (text .entry)))) ⌝ }
+    ensures { λ r. ⌜ r ≡ (sw .base64 && startsWith (54 ∷ 52 ∷ 34 ∷ []) (drop i (now (text .entry)))) ⌝ }
 {
     if !sw.base64 {
         return false;

@@ -22,9 +22,9 @@ use Rattle.literals.specs.InternalNumber.{cap, capped, placesOf}
 -- ---- the cap
 
 -- what does not tell a number above the cap from the cap does not tell a number from the number capped
-pub by-cap : {A : Type 0} (f : ℕ → A) (n : ℕ) → (10000000000000000000 < n → f 10000000000000000000 ≡ f n) → f (cap n) ≡ f n
+pub capped-same : {A : Type 0} (f : ℕ → A) (n : ℕ) → (10000000000000000000 < n → f 10000000000000000000 ≡ f n) → f (cap n) ≡ f n
 unfolding cap
-by-cap f n e = choose (leb n 10000000000000000000) refl
+capped-same f n e = choose (leb n 10000000000000000000) refl
   where
     choose : (t : Bool) → leb n 10000000000000000000 ≡ t → f (cond t n 10000000000000000000) ≡ f n
     choose true p = refl
@@ -43,12 +43,12 @@ cap-over n h = choose (leb n 10000000000000000000) refl
     choose false p = refl
 
 pub cap-cap : (n : ℕ) → cap (cap n) ≡ cap n
-cap-cap n = by-cap cap n (λ h. cap-over 10000000000000000000 (omega arith) ∙ sym (cap-over n (omega arith)))
+cap-cap n = capped-same cap n (λ h. cap-over 10000000000000000000 (omega arith) ∙ sym (cap-over n (omega arith)))
 
 -- with one more digit
 pub cap-digit : (base m d : ℕ) → cap (cap m * base + d) ≡ cap (m * base + d)
 cap-digit zero m d = simp mul-zero
-cap-digit (suc base) m d = by-cap (λ (x : ℕ). cap (x * suc base + d)) m both
+cap-digit (suc base) m d = capped-same (λ (x : ℕ). cap (x * suc base + d)) m both
   where
     both : 10000000000000000000 < m → cap (10000000000000000000 * suc base + d) ≡ cap (m * suc base + d)
     both h =
@@ -242,17 +242,17 @@ exponent-wide minus m places false exp h k = rw (power-more exp places (omega ar
 
 integer-capped : (minus : Bool) (m : ℕ) → asInteger minus (cap m) ≡ asInteger minus m
 integer-capped minus m =
-    by-cap (asInteger minus) m (λ h. integer-wide minus 10000000000000000000 (omega arith) ∙ sym (integer-wide minus m (omega arith)))
+    capped-same (asInteger minus) m (λ h. integer-wide minus 10000000000000000000 (omega arith) ∙ sym (integer-wide minus m (omega arith)))
 
 decimal-capped : (minus : Bool) (m : ℕ) (p : ℤ) → asDecimal minus (cap m) p ≡ asDecimal minus m p
 decimal-capped minus m p =
-    by-cap (λ (x : ℕ). asDecimal minus x p) m
+    capped-same (λ (x : ℕ). asDecimal minus x p) m
     (λ h. decimal-wide minus 10000000000000000000 p (omega arith) ∙ sym (decimal-wide minus m p (omega arith)))
 
 exponent-capped : (minus : Bool) (m places : ℕ) (below : Bool) (exp : ℕ) → places < 9223372036854775808
     → asDecimal minus m (signedBy below (cap exp) +ℤ negℤ (pos places)) ≡ asDecimal minus m (signedBy below exp +ℤ negℤ (pos places))
 exponent-capped minus m places below exp h =
-    by-cap (λ (x : ℕ). asDecimal minus m (signedBy below x +ℤ negℤ (pos places))) exp
+    capped-same (λ (x : ℕ). asDecimal minus m (signedBy below x +ℤ negℤ (pos places))) exp
     (λ k. exponent-wide minus m places below 10000000000000000000 h (omega arith) ∙ sym (exponent-wide minus m places below exp h (omega arith)))
 
 meaning-capped : (n : Number) → placesOf n < 9223372036854775808 → meaning (capped n) ≡ meaning n

@@ -14,7 +14,7 @@ use Rattle.reader.specs.Reading
 use Rattle.reader.specs.Content
 
 unfoldable pub readings : Unit {0}
-unfolding Switches.presentEdition Bytes.feed Bytes.oneOf Bytes.front Bytes.begins Bytes.sameBytes Bytes.classOf Bytes.classNumber
+unfolding Switches.presentEdition Bytes.feed Bytes.oneOf Bytes.front Bytes.startsWith Bytes.sameBytes Bytes.classOf Bytes.classNumber
     Bytes.isLetterOrDigit Bytes.isWordByte Bytes.isNumberByte Bytes.digitValue Utf8.lead Utf8.later Utf8.utf8Step Utf8.utf8 Utf8.isWhole
     Utf8.wholeFront Utf8.isUtf8 Utf8.isScalar Utf8.encode Utf8.listed Decoding.oneLetter Decoding.hexDone Decoding.hexDigit
     Decoding.hexStep Decoding.quotedRefuses Decoding.plainStep Decoding.manyDigits Decoding.escaped Decoding.escapeStep Decoding.rawRefuses

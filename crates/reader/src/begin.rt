@@ -10,6 +10,7 @@ ghost use Rattle.reader.specs.Reading.{maxText};
 ghost use Rattle.reader.specs.Syntax.{opensWithCapital};
 ghost use Rattle.reader.specs.Internal.Tokens.{IsToken, leafOf, plainWords, Begun, markBegin, wordBegin, DecimalFits};
 use super::kinds;
+use super::rows::MINUS;
 use super::tree::Begin;
 use super::tree::Kind;
 use super::tree::Words;
@@ -59,9 +60,6 @@ fn integer_leaf(value: i64) -> Words
         extra: 0,
     }
 }
-
-// The top bit of word 10, which says a decimal's minus.
-const MINUS: u32 = 2147483648;
 
 // The power of ten of a decimal, as its word.
 fn power_word(p: i64) -> u32

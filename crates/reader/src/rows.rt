@@ -40,6 +40,9 @@ pub const HIGH: usize = 10;
 
 pub const EXTRA: usize = 11;
 
+// The top bit of word 10 of a decimal, which says its minus.
+pub const MINUS: u32 = 2147483648;
+
 // The parent's word of the root.
 pub const NO_PARENT: u32 = 4294967295;
 

@@ -7,7 +7,7 @@ use mathlib.Core.List.{List, [], _∷_, _++_}
 use lib.Dec.{eqb}
 use lib.ListN.{length, getD}
 use Rattle.text.specs.declared.switches.Switches.{Switches}
-use Rattle.text.specs.Bytes.{begins, is, isSpace, ascii}
+use Rattle.text.specs.Bytes.{startsWith, is, isSpace, ascii}
 use Rattle.text.specs.Utf8.{isUtf8}
 use Rattle.lexer.specs.Closing.{notNewline}
 use Rattle.lexer.specs.Token as L
@@ -43,7 +43,7 @@ every p (b ∷ s) = p b && every p s
 -- `*/` stands somewhere in the bytes
 unfoldable pub holdsEnd : List ℕ → Bool
 holdsEnd [] = false
-holdsEnd (b ∷ s) = (is "*" b && begins (ascii "/") s) || holdsEnd s
+holdsEnd (b ∷ s) = (is "*" b && startsWith (ascii "/") s) || holdsEnd s
 
 -- "whole": `//` runs to before the next 0A or 0D, so a line comment's body holds neither; `/*` runs to the first `*/`, so a block comment's
 -- body holds none. "UTF-8": the marks are ASCII, so a comment is UTF-8 exactly if its body is.

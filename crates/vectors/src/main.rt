@@ -12,6 +12,7 @@ mod tokens;
 
 use libc::STDIN_FILENO;
 use text::bytes::byte_at;
+use text::span::MAX_TEXT;
 
 // The value of a capital hex digit; a case has no other.
 fn nibble(b: u8) -> u8
@@ -90,9 +91,9 @@ fn run(line: &[u8]) {
         show::line(b"no case");
         return;
     }
-    let mut space = [0u8; 65536];
+    let mut space = [0u8; MAX_TEXT];
     let n = plain(&line[2..], &mut space);
-    if 65536 < n {
+    if MAX_TEXT < n {
         return;
     }
     let mode = line[0];
@@ -115,15 +116,18 @@ fn run_all(s: &[u8]) {
     while i < s.len() {
         let at = i;
         i += 1;
-        if s[at] == 0x0a {
+        if s[at] == b'\n' {
             run(&s[from..at]);
             from = i;
         }
     }
 }
 
+// The room for the cases.
+const BUFFER: usize = 65536;
+
 fn main() {
-    let mut buffer = [0u8; 65536];
+    let mut buffer = [0u8; BUFFER];
     let n = io::read_full(STDIN_FILENO, &mut buffer);
     run_all(&buffer[..n]);
 }

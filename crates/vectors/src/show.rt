@@ -60,14 +60,17 @@ fn signed(z: i64) {
     io::print_decimal(STDOUT_FILENO, z as u64);
 }
 
+// The longest content that is printed.
+const LONGEST: usize = 4096;
+
 // A string's content: its length and its bytes in hex.
 fn content(token: &[u8]) {
-    let mut out = [0u8; 4096];
+    let mut out = [0u8; LONGEST];
     match lexer::token::put_token(text::switches::present(), token, &mut out) {
         literals::content::Written::Bytes(n) => {
             io::print_decimal(STDOUT_FILENO, n as u64);
             io::write_all(STDOUT_FILENO, b":");
-            if n <= 4096 {
+            if n <= LONGEST {
                 hex(&out[..n]);
             }
         }

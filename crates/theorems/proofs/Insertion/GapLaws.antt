@@ -9,7 +9,7 @@ use lib.Dec.{T}
 use lib.ListN.{length, length-append}
 use borrow.Author.Tests.{not-true}
 use Rattle.text.specs.declared.switches.Switches.{Switches}
-use Rattle.text.specs.Bytes.{feed, front, begins, oneOf, is, isSpace, ascii, classOf, isNumberByte, isWordByte, isLetterOrDigit}
+use Rattle.text.specs.Bytes.{feed, front, startsWith, oneOf, is, isSpace, ascii, classOf, isNumberByte, isWordByte, isLetterOrDigit}
 use Rattle.text.specs.Utf8.{lead, utf8Step, utf8, isWhole, isUtf8}
 use Rattle.text.proofs.Choice.{cond-true, cond-false, and-left, and-right, or-left, or-right}
 use Rattle.text.proofs.ClassLaws.{space-of}
@@ -44,17 +44,17 @@ and-one true e = e
 and-one false e = refl
 
 -- a block comment ends at its own `*/`; `star`: the byte before was a star
-block-on : (star : Bool) (n : ℕ) (body z : List ℕ) → (star && begins (ascii "/") body) || holdsEnd body ≡ false
+block-on : (star : Bool) (n : ℕ) (body z : List ℕ) → (star && startsWith (ascii "/") body) || holdsEnd body ≡ false
     → feed blockStep (cond star (B.Starred n) (B.Inside n)) (body ++ (42 ∷ 47 ∷ z)) ≡ B.Closed (n + length body + 2)
-unfolding feed blockStep holdsEnd begins
+unfolding feed blockStep holdsEnd startsWith
 block-on true n [] z e = let q : suc (suc n) ≡ n + 0 + 2 = omega arith in feed-stays blockStep (B.Closed (suc (suc n))) (λ b. refl) z ∙ ap B.Closed q
 block-on false n [] z e = let q : suc (suc n) ≡ n + 0 + 2 = omega arith in feed-stays blockStep (B.Closed (suc (suc n))) (λ b. refl) z ∙ ap B.Closed q
 block-on true n (b ∷ s) z e =
     let q : suc n + length s + 2 ≡ n + suc (length s) + 2 = omega arith in
-    let h = or-right (is "/" b && true) ((is "*" b && begins (ascii "/") s) || holdsEnd s) e in
+    let h = or-right (is "/" b && true) ((is "*" b && startsWith (ascii "/") s) || holdsEnd s) e in
     ap (λ (st : Block). feed blockStep st (s ++ (42 ∷ 47 ∷ z)))
     (cond-false (is "/" b) (B.Closed (suc n)) (cond (is "*" b) (B.Starred (suc n)) (B.Inside (suc n)))
-    (and-one (is "/" b) (or-left (is "/" b && true) ((is "*" b && begins (ascii "/") s) || holdsEnd s) e)))
+    (and-one (is "/" b) (or-left (is "/" b && true) ((is "*" b && startsWith (ascii "/") s) || holdsEnd s) e)))
     ∙ block-on (is "*" b) (suc n) s z h ∙ ap B.Closed q
 block-on false n (b ∷ s) z e =
     let q : suc n + length s + 2 ≡ n + suc (length s) + 2 = omega arith in
