@@ -31,14 +31,14 @@ pub(crate) fn find_key(
     let from = part.span.start;
     let to = part.span.stop;
     let own = &token[from..to];
-    let mut x = children.first;
-    while x < children.next {
-        let a = word_of(table, x, KEY_START);
-        let e = word_of(table, x, KEY_STOP);
-        if content_is(sw, &text[a..e], body, own) {
+    let mut child = children.first;
+    while child < children.next {
+        let earlier_start = word_of(table, child, KEY_START);
+        let earlier_stop = word_of(table, child, KEY_STOP);
+        if content_is(sw, &text[earlier_start..earlier_stop], body, own) {
             return true;
         }
-        x = word_of(table, x, NEXT);
+        child = word_of(table, child, NEXT);
     }
     false
 }

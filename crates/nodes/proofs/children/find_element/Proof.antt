@@ -1,4 +1,4 @@
--- made by tools/proof.py from answers/children/find_element (answers 6287630ae482, proof 67288e1307a2): edit that file, not this one
+-- made by tools/proof.py from answers/children/find_element (answers 2f4c039c3a47, proof e7805c055121): edit that file, not this one
 use borrow.Author.Needs.{needs}
 use native.Mathlib.Omega.{arith}
 use mathlib.Core.Path.{sym, _∙_}
@@ -10,16 +10,16 @@ use Rattle.nodes.proofs.children.find_element.Statement.{statement}
 use Rattle.nodes.proofs.children.find_element.Tie as tie
 
 abbrev Inv-loop : tie.InvT-loop
-Inv-loop table n i end left₀ x₀ left x = ElementWalk i table n left x
+Inv-loop table n i end left₀ child₀ left child = ElementWalk i table n left child
 
 abbrev μ-loop : tie.MeasureT-loop
-μ-loop table n i end left₀ x₀ left x = end - x
+μ-loop table n i end left₀ child₀ left child = end - child
 
 word-of-requires : tie.Need-word-of-requires Inv-loop μ-loop
 word-of-requires c κs = search needs
 
-add-x : tie.Need-add-x Inv-loop μ-loop
-add-x c = let h = stands-word _ _ (c .before .before .pre) 8 (omega arith) in omega arith
+add-child : tie.Need-add-child Inv-loop μ-loop
+add-child c = let h = stands-word _ _ (c .before .before .pre) 8 (omega arith) in omega arith
 
 loop-holds : tie.Need-loop-holds Inv-loop μ-loop
 loop-holds c = element-start _ _ _
@@ -46,5 +46,5 @@ returns-2 c = element-end _ _ _ _ _ _ (c .before .loop .inv) (c .before .before 
 
 pub find-element-spec : {M : Type 1} → statement M
 find-element-spec =
-    tie.close (tie.spec Inv-loop μ-loop word-of-requires add-x loop-holds returns sub-left word-of-requires-2 loop-less
-    loop-again returns-2)
+    tie.close (tie.spec Inv-loop μ-loop word-of-requires add-child loop-holds returns sub-left word-of-requires-2
+    loop-less loop-again returns-2)

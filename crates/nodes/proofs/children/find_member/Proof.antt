@@ -1,4 +1,4 @@
--- made by tools/proof.py from answers/children/find_member (answers 598c44d22894, proof e3f8c051fbe9): edit that file, not this one
+-- made by tools/proof.py from answers/children/find_member (answers 4775f6db26f5, proof 55564c83faca): edit that file, not this one
 use borrow.Author.Needs.{needs}
 use native.Mathlib.Omega.{arith}
 use mathlib.Core.Path.{sym, _∙_}
@@ -11,16 +11,16 @@ use Rattle.nodes.proofs.children.find_member.Statement.{statement}
 use Rattle.nodes.proofs.children.find_member.Tie as tie
 
 abbrev Inv-loop : tie.InvT-loop
-Inv-loop sw text table n key end x₀ x = FirstWalk (hasKey sw text key) table n x
+Inv-loop sw text table n key end child₀ child = FirstWalk (hasKey sw text key) table n child
 
 abbrev μ-loop : tie.MeasureT-loop
-μ-loop sw text table n key end x₀ x = end - x
+μ-loop sw text table n key end child₀ child = end - child
 
 word-of-requires : tie.Need-word-of-requires Inv-loop μ-loop
 word-of-requires c κs = search needs
 
-add-x : tie.Need-add-x Inv-loop μ-loop
-add-x c = let h = stands-word _ _ (c .before .before .before .before .pre) 8 (omega arith) in omega arith
+add-child : tie.Need-add-child Inv-loop μ-loop
+add-child c = let h = stands-word _ _ (c .before .before .before .before .pre) 8 (omega arith) in omega arith
 
 loop-holds : tie.Need-loop-holds Inv-loop μ-loop
 loop-holds c = first-start _ _ _
@@ -53,5 +53,5 @@ returns-2 c = member-end _ _ _ _ _ _ _ (c .before .loop .inv) (c .before .before
 
 pub find-member-spec : {M : Type 1} → statement M
 find-member-spec =
-    tie.close (tie.spec Inv-loop μ-loop word-of-requires add-x loop-holds word-of-requires-2 word-of-requires-3
+    tie.close (tie.spec Inv-loop μ-loop word-of-requires add-child loop-holds word-of-requires-2 word-of-requires-3
     span-content-is-requires returns word-of-requires-4 loop-less loop-again returns-2)

@@ -1,4 +1,4 @@
--- made by tools/proof.py from answers/keys/find_key (answers 2843016c5504, proof e0cc4256886a): edit that file, not this one
+-- made by tools/proof.py from answers/keys/find_key (answers 13309276b116, proof 5db085794a5f): edit that file, not this one
 use borrow.Author.Needs.{needs}
 use native.Mathlib.Omega.{arith}
 use mathlib.Core.Path.{_≡_, refl, sym, _∙_}
@@ -12,10 +12,10 @@ use Rattle.reader.proofs.keys.find_key.Statement.{statement}
 use Rattle.reader.proofs.keys.find_key.Tie as tie
 
 abbrev Inv-loop : tie.InvT-loop
-Inv-loop sw text table children start stop body from to own x₀ x = (K : KeyHere sw text start stop) × (content sw body own ≡ some (K .content)) × Walk sw text table (children .first) x (children .next) (K .content)
+Inv-loop sw text table children start stop body from to own child₀ child = (K : KeyHere sw text start stop) × (content sw body own ≡ some (K .content)) × Walk sw text table (children .first) child (children .next) (K .content)
 
 abbrev μ-loop : tie.MeasureT-loop
-μ-loop sw text table children start stop body from to own x₀ x = children .next - x
+μ-loop sw text table children start stop body from to own child₀ child = children .next - child
 
 sub-token : tie.Need-sub-token Inv-loop μ-loop
 sub-token c = let o = c .before .before .pre .1 .key .ordered in omega arith
