@@ -1,7 +1,7 @@
 -- What the code's answer says of the specification's: its number, and the bound on a refusal's place.
 -- Assumes nothing.
 use mathlib.Core.Path.{_≡_, refl, sym, ap, _∙_, subst}
-use Prim.Native.Nat.{ℕ, _+_, _*_, _≤_}
+use Prim.Native.Nat.{ℕ, _≤_}
 use native.Mathlib.Omega.{arith}
 use mathlib.Core.List.{List}
 use Rattle.text.specs.declared.refusal.Refusal.{Refusal}

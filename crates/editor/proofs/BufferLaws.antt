@@ -1,12 +1,13 @@
 -- Buffers written over: byte by byte, and one part after another.
 -- Assumes nothing.
-use mathlib.Core.Path.{_≡_, refl, sym, ap, ap₂, _∙_}
-use Prim.Native.Nat.{ℕ, zero, suc, _+_, _-_, _<_, _≤_, max}
+use mathlib.Core.Path.{_≡_, sym, ap, ap₂, _∙_}
+use Prim.Native.Nat.{ℕ, _+_, _-_, _<_, _≤_, max}
 use native.Mathlib.Omega.{arith}
 use native.Mathlib.Numerals.{add-one}
 use mathlib.Core.List.{List, _++_, append-assoc}
 use lib.ListN.{length, take, drop, getD, set, replicate, length-append, length-drop, length-replicate}
 use lib.Seq.{paste, paste-zero, paste-suc, take-all, take-length, drop-at, drop-drop, length-take-le}
+use Rattle.text.proofs.ListLaws.{getD-zeros}
 use Rattle.editor.specs.Edit.{splice, withText, overwritten}
 use Rattle.editor.proofs.SpliceLaws.{take-overwritten}
 
@@ -24,11 +25,6 @@ paste-whole d at s n e =
     ∙ append-assoc (take at d) s (drop (at + length s) d)
 
 -- the same with zeros, from `from` to before `to`
-zero-at : (n j : ℕ) → getD {A = ℕ} (replicate n 0) j 0 ≡ 0
-zero-at zero j = refl
-zero-at (suc n) zero = refl
-zero-at (suc n) (suc j) = zero-at n j
-
 pub zero-start : (d : List ℕ) (from to : ℕ) → d ≡ paste d from (replicate (to - from) 0) (from - from)
 zero-start d from to =
     let e : 0 ≡ from - from = omega arith in
@@ -42,7 +38,7 @@ module _ (d : List ℕ) (from to i : ℕ) where
       let n = length-replicate {A = ℕ} (to - from) 0 in
       let e : i ≡ from + (i - from) = omega arith in
       let f : i - from + 1 ≡ i + 1 - from = omega arith in
-      ap₂ (set (paste d from zeros (i - from))) e (sym (zero-at (to - from) (i - from)))
+      ap₂ (set (paste d from zeros (i - from))) e (sym (getD-zeros (to - from) (i - from)))
       ∙ paste-next d from zeros (i - from) (omega arith) (omega arith)
       ∙ ap (paste d from zeros) f
 

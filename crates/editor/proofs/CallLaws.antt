@@ -1,13 +1,12 @@
 -- What both calls share: the lengths, the reading, and what is shown at the end.
 -- Assumes nothing.
 use mathlib.Core.Path.{_≡_, refl, sym, ap, ap₂, _∙_, subst}
-use Prim.Native.Nat.{ℕ, zero, suc, _+_, _<_, _≤_}
+use Prim.Native.Nat.{ℕ, _+_, _<_, _≤_}
 use native.Mathlib.Omega.{arith}
 use mathlib.Core.Bool.{true, false, _||_}
-use mathlib.Core.List.{List, [], _∷_}
+use mathlib.Core.List.{List}
 use lib.Dec.{eqb}
-use lib.ListN.{length, take, drop, replicate}
-use lib.Seq.{take-take}
+use lib.ListN.{length, take, replicate}
 use borrow.Author.Tests.{lt-ltb, le-ltb, ne-eqb}
 use Rattle.text.specs.declared.refusal.Refusal.{Refusal}
 use Rattle.text.specs.declared.switches.Switches.{Switches}
@@ -26,13 +25,6 @@ use Rattle.editor.proofs.SpliceLaws.{take-overwritten}
 use Rattle.reader.proofs.NumberBound.{NumberWithin, number-law}
 
 -- ---- lists
-
--- a part of a text's front is the text's own part
-pub part-front : (s k u : ℕ) (t : List ℕ) → s + k ≤ u → take k (drop s (take u t)) ≡ take k (drop s t)
-part-front zero k u t h = take-take k u t (omega arith)
-part-front (suc s) k zero t h = absurd (omega arith)
-part-front (suc s) k (suc u) [] h = refl
-part-front (suc s) k (suc u) (x ∷ t) h = part-front s k u t (omega arith)
 
 -- what was written at the front
 pub front-is : (n : ℕ) (x d e : List ℕ) → e ≡ overwritten 0 x d → n ≡ length x → length x ≤ length d → take n e ≡ x

@@ -1,7 +1,7 @@
 -- A correction: one law for each way out.
 -- Assumes nothing.
-use mathlib.Core.Path.{_≡_, refl, sym, ap, ap₂, _∙_, subst}
-use Prim.Native.Nat.{ℕ, _+_, _-_, _*_, _<_, _≤_}
+use mathlib.Core.Path.{_≡_, refl, sym, ap, _∙_, subst}
+use Prim.Native.Nat.{ℕ, _+_, _-_, _<_, _≤_}
 use native.Mathlib.Omega.{arith}
 use mathlib.Core.Bool.{true, false}
 use mathlib.Core.List.{List, _++_}
@@ -12,7 +12,6 @@ use borrow.Author.Tests.{lt-leb, le-leb}
 use Rattle.text.specs.declared.refusal.Refusal.{Refusal}
 use Rattle.text.specs.declared.span.Span.{Span}
 use Rattle.text.specs.declared.switches.Switches.{Switches}
-use Rattle.reader.specs.Tree.{nodeWords}
 use Rattle.reader.specs.Reading.{reading, nodeCount, wordOf, oneValue, maxText}
 use Rattle.reader.specs.Content.{part}
 use Rattle.reader.proofs.SpanLaws.{span-law}
@@ -24,7 +23,8 @@ use Rattle.editor.specs.Internal.{changed, Knows, ReadNow, Stopped, chan
 use Rattle.editor.proofs.SpliceLaws.{length-part, take-withText}
 use Rattle.editor.proofs.EntryLaws.{length-trailer}
 use Rattle.editor.proofs.ReadLaws.{reads-short}
-use Rattle.editor.proofs.CallLaws.{part-front, Showing}
+use Rattle.text.proofs.ListLaws.{part-of-front}
+use Rattle.editor.proofs.CallLaws.{Showing}
 use Rattle.editor.proofs.TrialLaws.{judged-refuses, judged-does}
 
 -- a text that reads is not too long
@@ -89,7 +89,7 @@ module _ (p : Present) (text journal : List ℕ) (words : ℕ) (span : Span) (re
           let g = w .forwards in
           let h = w .ends in
           let same : part (span .start) (span .stop) (textOf b) ≡ old =
-          part-front (span .start) (span .stop - span .start) (p .used .text) text (omega arith) ∙ sym o in
+          part-of-front (span .start) (span .stop - span .start) (p .used .text) text (omega arith) ∙ sym o in
           judged-does (p .sw) words b new (p .used .journal + length more) r table draft judged-entry v (withReplacement b span replacement) out bytes
           (take-withText (p .used .text) new text) refl
           (tx ∙ ap (λ (x : List ℕ). withText (p .used .text) x text) (judged .done v .3))

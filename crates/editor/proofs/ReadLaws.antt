@@ -1,9 +1,7 @@
 -- What a text that reads promises, by one name each.
 -- Assumes nothing.
 use mathlib.Core.Path.{_≡_, refl, sym, _∙_}
-use Prim.Native.Nat.{ℕ, _+_, _*_, _<_, _≤_}
-use native.Mathlib.Omega.{arith}
-use native.Mathlib.Nat.{div-mul-le-self}
+use Prim.Native.Nat.{ℕ, _≤_}
 use mathlib.Core.Bool.{Bool, true, false, cond, false≢true}
 use mathlib.Core.List.{List}
 use lib.Dec.{leb}
@@ -13,10 +11,8 @@ use Rattle.text.specs.declared.switches.Switches.{Switches}
 use Rattle.text.specs.Utf8.{utf8, isWhole, wholeFront}
 use Rattle.lexer.specs.Token.{tokens}
 use Rattle.reader.specs.declared.tree.Limits.{Limits}
-use Rattle.reader.specs.Tree.{nodeWords}
 use Rattle.reader.specs.Syntax.{Outcome, refused, run, before}
-use Rattle.reader.specs.Reading.{reading, reads, isTaken, outcome, limitsOf, nodeCount, maxText}
-use Rattle.reader.proofs.SizeLaws.{count-law}
+use Rattle.reader.specs.Reading.{reading, reads, isTaken, outcome, limitsOf, maxText}
 
 -- a text over 65,536 bytes is refused, whatever is asked
 short-or : (sw : Switches) (any : Bool) (limits : Limits) (t : List ℕ) (P : Outcome → Bool) → P (refused 1 maxText) ≡ false

@@ -1,7 +1,7 @@
 -- An undo: one law for each way out.
 -- Assumes nothing.
 use mathlib.Core.Path.{_≡_, refl, sym, ap, ap₂, _∙_, subst}
-use Prim.Native.Nat.{ℕ, _+_, _-_, _<_, _≤_}
+use Prim.Native.Nat.{ℕ, _-_, _≤_}
 use native.Mathlib.Omega.{arith}
 use mathlib.Core.Bool.{Bool, false, not, cond}
 use mathlib.Core.List.{List}
@@ -21,7 +21,8 @@ use Rattle.editor.specs.declared.trial.Present.{Present}
 use Rattle.editor.specs.Edit.{Lent, lentOf, inUse, textOf, journalOf, splice, trailerBytes, withText, noRoom, decided, entrySize, oldBytes, undone, withUndo, undoRefusal, undo}
 use Rattle.editor.specs.Internal.{changed, Stopped, changeRefusal, Within, Judged, lastEntry, TrailerIs, undoneRead}
 use Rattle.editor.proofs.SpliceLaws.{take-withText}
-use Rattle.editor.proofs.CallLaws.{part-front, Showing}
+use Rattle.text.proofs.ListLaws.{part-of-front}
+use Rattle.editor.proofs.CallLaws.{Showing}
 use Rattle.editor.proofs.TrialLaws.{judged-refuses, judged-does}
 use Rattle.editor.proofs.LastEntryLaws.{nothing-says, bad-says, Good, good-says}
 
@@ -94,7 +95,7 @@ module _ (p : Present) (text journal : List ℕ) (words : ℕ) (text-fits : p .u
         let a : length J - entrySize J ≡ p .used .journal - trailer .size = omega arith in
         let d : length J - trailerBytes ≡ p .used .journal - trailerBytes = omega arith in
         ap₂ (λ (x y : ℕ). part x y J) a d
-        ∙ part-front (p .used .journal - trailer .size) (p .used .journal - trailerBytes - (p .used .journal - trailer .size)) (p .used .journal) journal (omega arith)
+        ∙ part-of-front (p .used .journal - trailer .size) (p .used .journal - trailerBytes - (p .used .journal - trailer .size)) (p .used .journal) journal (omega arith)
 
     new-is : undone J X ≡ new
     unfolding undone

@@ -167,13 +167,9 @@ module _ (sw : Switches) (text step table : List ℕ) (n : ℕ) (r : Child) (K :
 
 -- ---- the path
 
--- what is left of a path behind its first step
-rest-is : (path : List ℕ) (e : ℕ) → take (length path - (e + 1)) (drop (e + 1) path) ≡ drop (e + 1) path
-rest-is path e = part-to-end path (e + 1)
-
 module _ (path : List ℕ) (e : ℕ) (q : e ≡ front isStepByte path) (h : e < length path) where
   split-path : pieces path ≡ take e path ∷ pieces (take (length path - (e + 1)) (drop (e + 1) path))
-  split-path = first-step path e q h ∙ ap (λ (l : List ℕ). take e path ∷ pieces l) (sym (rest-is path e))
+  split-path = first-step path e q h ∙ ap (λ (l : List ℕ). take e path ∷ pieces l) (sym (part-to-end path (e + 1)))
 
   -- "steps left fall"
   pub fewer-steps : length (pieces (take (length path - (e + 1)) (drop (e + 1) path))) < length (pieces path)

@@ -10,13 +10,12 @@ use Rattle.text.specs.declared.switches.Switches.{Switches}
 use Rattle.text.specs.declared.refusal.Refusal.{Refusal}
 use Rattle.reader.specs.Tree.{Tree, size}
 use Rattle.reader.specs.Syntax.{Outcome, taken, refused}
-use Rattle.reader.specs.Reading.{reading, tableOf, nodeCount, maxText, maxNodes}
+use Rattle.reader.specs.Reading.{reading, nodeCount, maxText, maxNodes}
 use Rattle.reader.proofs.PlaceBound.{PlaceWithin, place-law}
 use Rattle.reader.proofs.SizeLaws.{count-law}
 use Rattle.nodes.specs.Nodes.{nodeAt, Numbered}
-use Rattle.nodes.specs.Stands.{Stands}
 use Rattle.nodes.proofs.WordLaws.{size-pos}
-use Rattle.nodes.proofs.NodeLaws.{node-fits, node-stands, child-node, node-root}
+use Rattle.nodes.proofs.NodeLaws.{node-fits, child-node, node-root}
 use Rattle.path.specs.Path.{steps, child, onward, follow, found}
 use Rattle.path.specs.declared.find.Found.{Found}
 use Rattle.path.specs.declared.find.Found.the-variants as F

@@ -4,8 +4,8 @@ use mathlib.Core.Path.{_≡_, refl, ap, sym, subst, _∙_}
 use mathlib.Core.List.{List, [], _++_}
 use mathlib.Core.Option.{none}
 use mathlib.Core.Bool.{Bool, true, false, _&&_}
-use Prim.Native.Nat.{ℕ, zero, suc, _-_, _*_, _/_, _<_, _≤_}
-use native.Mathlib.Nat.{zero-add, sub-zero}
+use Prim.Native.Nat.{ℕ, _-_, _*_, _/_, _<_, _≤_}
+use native.Mathlib.Nat.{zero-add}
 use native.Mathlib.Omega.{arith}
 use lib.Dec.{eqb}
 use lib.ListN.{length, replicate, drop, length-replicate}

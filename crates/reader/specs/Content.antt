@@ -1,6 +1,6 @@
 -- The content call (document 01, "Content of a string"). The code answers with an enum of its own, src/content.rt: `contentGiven` gives it.
 -- Assumes nothing.
-use Prim.Native.Nat.{ℕ, _-_, _*_}
+use Prim.Native.Nat.{ℕ, _-_}
 use mathlib.Core.Bool.{Bool, cond, _&&_}
 use mathlib.Core.Option.{Option, none, some}
 use mathlib.Core.List.{List, _++_}

@@ -17,7 +17,6 @@ use Rattle.reader.specs.declared.tree.Kind.{Kind}
 use Rattle.reader.specs.declared.tree.Limits.{Limits}
 use Rattle.reader.specs.declared.tree.Rules.{Rules}
 use Rattle.text.specs.declared.span.Span as CS
-use Rattle.lexer.specs.declared.item.Token as CT
 use Rattle.reader.specs.declared.tree.SpanWords.{SpanWords}
 use Rattle.reader.specs.declared.tree.Label as CL
 use Rattle.reader.specs.declared.tree.Spot.{Spot}
