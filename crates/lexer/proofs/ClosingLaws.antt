@@ -35,7 +35,7 @@ Held k (C.Hashes j n) = suc j ≤ n
 Held k (C.Closed n) = suc k ≤ n
 
 module _ (escapes : Bool) (k : ℕ) where
-  quote-counts : (j n : ℕ) → closingRead (afterQuote escapes k j n) ≤ j + n
+  quote-counts : (j n : ℕ) → closingRead (afterQuote k j n) ≤ j + n
   unfolding afterQuote closingRead
   quote-counts j n = cond-both (λ (c : Closing). closingRead c ≤ j + n) (eqb j k) (λ _. omega arith) (λ _. omega arith)
 
@@ -61,7 +61,7 @@ module _ (escapes : Bool) (k : ℕ) where
       → closingRead next + 2 * from ≤ 2 * (i + 1)
   closing-turn c next b from i e h = let n = closing-counts c b in rw e (omega arith)
 
-  quote-one : (j n : ℕ) → closingBytes (afterQuote escapes k j n) ≤ n
+  quote-one : (j n : ℕ) → closingBytes (afterQuote k j n) ≤ n
   unfolding afterQuote closingBytes
   quote-one j n = cond-both (λ (c : Closing). closingBytes c ≤ n) (eqb j k) (λ _. omega arith) (λ _. omega arith)
 
@@ -83,7 +83,7 @@ module _ (escapes : Bool) (k : ℕ) where
   unfolding closing closingBytes
   closing-le s = let h = feed-le closingBytes (closingStep escapes k) closing-one (C.Inside 0) s in omega arith
 
-  quote-held : (j n : ℕ) → suc j ≤ n → Held k (afterQuote escapes k j n)
+  quote-held : (j n : ℕ) → suc j ≤ n → Held k (afterQuote k j n)
   unfolding afterQuote Held
   quote-held j n h = cond-both (Held k) (eqb j k) (λ t. let e = eqb→eq j k t in omega arith) (λ _. h)
 
@@ -140,7 +140,7 @@ module _ (escapes : Bool) (k : ℕ) where
   -- such a byte only counts
   plain-step : (n b : ℕ) → T (plain b) → closingStep escapes k (C.Inside n) b ≡ C.Inside (suc n)
   unfolding closingStep afterOther
-  plain-step n b h = third (eqb b 0x22) (eqb b 0x5C) escapes (afterQuote escapes k 0 (suc n)) (C.Escaped (suc n)) (C.Inside (suc n)) h
+  plain-step n b h = third (eqb b 0x22) (eqb b 0x5C) escapes (afterQuote k 0 (suc n)) (C.Escaped (suc n)) (C.Inside (suc n)) h
 
   -- so do all of them at the front
   plain-front : (s : List ℕ) (n : ℕ)

@@ -140,14 +140,14 @@ comment-local (c ∷ x) z z′ h s = on (is "/" c) refl h s
 -- ---- strings
 
 module _ (escapes : Bool) (k : ℕ) where
-  quote-count : (j n : ℕ) → closingBytes (afterQuote escapes k j n) ≡ n
+  quote-count : (j n : ℕ) → closingBytes (afterQuote k j n) ≡ n
   unfolding afterQuote closingBytes
   quote-count j n = cond-count closingBytes n (eqb j k) (C.Closed n) (C.Hashes j n) refl refl
 
   other-count : (n b : ℕ) → closingBytes (afterOther escapes k n b) ≡ suc n
   unfolding afterOther closingBytes
   other-count n b =
-      cond-count closingBytes (suc n) (is "\"" b) (afterQuote escapes k 0 (suc n)) (cond (is "\\" b && escapes) (C.Escaped (suc n)) (C.Inside (suc n)))
+      cond-count closingBytes (suc n) (is "\"" b) (afterQuote k 0 (suc n)) (cond (is "\\" b && escapes) (C.Escaped (suc n)) (C.Inside (suc n)))
       (quote-count 0 (suc n)) (cond-count closingBytes (suc n) (is "\\" b && escapes) (C.Escaped (suc n)) (C.Inside (suc n)) refl refl)
 
   pub close-goes : (st : Closing) (b : ℕ) → isClosed st ≡ false → closingBytes (closingStep escapes k st b) ≡ suc (closingBytes st)
@@ -156,7 +156,7 @@ module _ (escapes : Bool) (k : ℕ) where
   close-goes (C.Escaped n) b e = refl
   close-goes (C.Closed n) b e = no-false e
   close-goes (C.Hashes j n) b e =
-      cond-count closingBytes (suc n) (is "#" b) (afterQuote escapes k (suc j) (suc n)) (afterOther escapes k n b) (quote-count (suc j) (suc n)) (other-count n b)
+      cond-count closingBytes (suc n) (is "#" b) (afterQuote k (suc j) (suc n)) (afterOther escapes k n b) (quote-count (suc j) (suc n)) (other-count n b)
 
 -- a closed string has read its last byte
 content-over : (isText : Bool) (n more : ℕ) (c : Option (List ℕ)) → EndsAt n (contentItem isText more c) → more ≡ n

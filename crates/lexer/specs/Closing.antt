@@ -13,23 +13,23 @@ use Rattle.lexer.specs.declared.closing.Block.the-variants as B
 
 -- ---- strings
 
--- `escapes`: "a backslash takes the next byte with it" (in `"` and `b"`). `k`: the hashes that follow the closing quote (0 but in
--- raw strings).
-module _ (escapes : Bool) (k : ℕ) where
-  -- a quote and j hashes have been read: "ends at the first quote followed by k hashes"
-  unfoldable pub afterQuote : (j n : ℕ) → Closing
-  afterQuote j n = cond (eqb j k) (C.Closed n) (C.Hashes j n)
+-- `k`: the hashes that follow the closing quote (0 but in raw strings). A quote and j hashes have been read: "ends at the first quote
+-- followed by k hashes"
+unfoldable pub afterQuote : (k j n : ℕ) → Closing
+afterQuote k j n = cond (eqb j k) (C.Closed n) (C.Hashes j n)
 
+-- `escapes`: "a backslash takes the next byte with it" (in `"` and `b"`)
+module _ (escapes : Bool) (k : ℕ) where
   -- a byte that goes on with no begun closing: "the next free quote ends the token"
   unfoldable pub afterOther : (n b : ℕ) → Closing
-  afterOther n b = cond (is "\"" b) (afterQuote 0 (suc n)) (cond (is "\\" b && escapes) (C.Escaped (suc n)) (C.Inside (suc n)))
+  afterOther n b = cond (is "\"" b) (afterQuote k 0 (suc n)) (cond (is "\\" b && escapes) (C.Escaped (suc n)) (C.Inside (suc n)))
 
   -- one byte more: "a backslash takes the next byte with it"; after a quote hashes count, and any other byte goes on as if no closing had
   -- begun
   unfoldable pub closingStep : Closing → ℕ → Closing
   closingStep (C.Inside n) b = afterOther n b
   closingStep (C.Escaped n) b = C.Inside (suc n)
-  closingStep (C.Hashes j n) b = cond (is "#" b) (afterQuote (suc j) (suc n)) (afterOther n b)
+  closingStep (C.Hashes j n) b = cond (is "#" b) (afterQuote k (suc j) (suc n)) (afterOther n b)
   closingStep (C.Closed n) b = C.Closed n
 
   -- the bytes after the opening quote, up to the end of the token

@@ -25,8 +25,8 @@ pub enum Block {
 }
 
 // A quote and `seen` hashes have been read.
-fn after_quote(escapes: bool, hashes: usize, seen: usize, read: usize) -> Closing
-    ensures { λ r. ⌜ r ≡ afterQuote escapes hashes seen read ⌝ }
+fn after_quote(hashes: usize, seen: usize, read: usize) -> Closing
+    ensures { λ r. ⌜ r ≡ afterQuote hashes seen read ⌝ }
 {
     if seen == hashes {
         return Closing::Closed(read);
@@ -40,7 +40,7 @@ fn after_other(escapes: bool, hashes: usize, read: usize, b: u8) -> Closing
     ensures { λ r. ⌜ r ≡ afterOther escapes hashes read b ⌝ }
 {
     if b == b'"' {
-        return after_quote(escapes, hashes, 0, read + 1);
+        return after_quote(hashes, 0, read + 1);
     }
     if b != b'\\' {
         return Closing::Inside(read + 1);
@@ -60,7 +60,7 @@ fn closing_step(escapes: bool, hashes: usize, state: Closing, b: u8) -> Closing
         Closing::Escaped(read) => Closing::Inside(read + 1),
         Closing::Hashes(seen, read) => {
             if b == b'#' {
-                return after_quote(escapes, hashes, seen + 1, read + 1);
+                return after_quote(hashes, seen + 1, read + 1);
             }
             after_other(escapes, hashes, read, b)
         }
