@@ -8,7 +8,7 @@ ghost use lib.Signed.{leZ};
 ghost use Rattle.reader.specs.Tree.{integer, decimal, twosComplement, plus1000};
 ghost use Rattle.reader.specs.Reading.{maxText};
 ghost use Rattle.reader.specs.Syntax.{opensWithCapital};
-ghost use Rattle.reader.specs.Internal.Tokens.{IsToken, leafOf, plainWords, Begun, markBegin, wordBegin, DecimalFits};
+ghost use Rattle.reader.specs.Internal.Tokens.{TokenHere, BeginsHere, leafOf, plainWords, markBegin, wordBegin, DecimalFits};
 use super::kinds;
 use super::rows::MINUS;
 use super::tree::Begin;
@@ -17,7 +17,6 @@ use super::tree::Words;
 use lexer::item::Token;
 use lexer::item::TokenKind;
 use text::bytes::same_bytes;
-use text::switches::Switches;
 
 // ---- numbers
 
@@ -142,10 +141,10 @@ fn mark_begin(b: u8) -> Begin
 // ---- tokens
 
 // What a token begins.
-pub(crate) fn begin_of(sw: Switches, text: &[u8], token: Token) -> Begin
-    requires { ⌜ IsToken sw (now text) token ⌝ }
+pub(crate) fn begin_of(text: &[u8], token: Token) -> Begin
+    requires { ⌜ TokenHere (now text) token ⌝ }
     requires { ⌜ length (now text) ≤ maxText ⌝ }
-    ensures { λ r. ⌜ Begun sw (now (text .entry)) (token .span .start) (token .span .stop) r ⌝ }
+    ensures { λ r. ⌜ BeginsHere (now (text .entry)) token r ⌝ }
 {
     let kind = token.kind;
     let start = token.span.start;

@@ -194,7 +194,7 @@ pub(crate) fn read_value(
     ensures { λ r. ⌜ ReadAs rules (now (text .entry)) due (token .span) (beginsAt (rules .sw) (now (text .entry)) (token .span)) (now (table .entry)) (now (table .exit)) r ⌝ }
 {
     let place = token.span.start;
-    match begin_of(rules.sw, text, token) {
+    match begin_of(text, token) {
         Begin::Container(kind) => read_container(rules, text, table, due, kind, token.span),
         Begin::Scalar(words) => put_leaf(rules.limits, table, due, token.span, words),
         Begin::Identifier => read_identifier(rules, text, table, due, token.span),

@@ -76,6 +76,15 @@ BeginIs sw s start stop B.Nothing = begins (spanOf (tokenAt sw s start stop)) (f
 pub record Begun (sw : Switches) (s : List ℕ) (start stop : ℕ) (r : Begin) : Type 0 where
   pub is : BeginIs sw s start stop r
 
+-- the code's token stands there, in some edition
+pub record TokenHere (s : List ℕ) (t : CT.Token) : Type 0 where
+  pub sw : Switches
+  pub token : IsToken sw s t
+
+-- what the code's token begins, in every edition in which it stands there
+pub record BeginsHere (s : List ℕ) (t : CT.Token) (r : Begin) : Type 0 where
+  pub is : (sw : Switches) → IsToken sw s t → Begun sw s (t .span .start) (t .span .stop) r
+
 -- what a mark begins
 unfoldable pub markBegin : ℕ → Begin
 markBegin b = cond (is "{" b) (B.Container Object) (cond (is "[" b) (B.Container Array) (cond (is "(" b) (B.Container Tuple) B.Nothing))

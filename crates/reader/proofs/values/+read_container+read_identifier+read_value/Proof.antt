@@ -1,4 +1,4 @@
--- made by tools/proof.py from answers/values/+read_container+read_identifier+read_value (answers 5f3067e53e32, proof 7e65e4885348): edit that file, not this one
+-- made by tools/proof.py from answers/values/+read_container+read_identifier+read_value (answers b404435bba61, proof 1f147d8e5631): edit that file, not this one
 use borrow.Author.Needs.{needs}
 use native.Mathlib.Omega.{arith}
 use mathlib.Core.Path.{_≡_, refl, sym, _∙_}
@@ -351,7 +351,7 @@ read-identifier-returns-6 t c =
 read-value-begin-of-requires : (t : ℕ) → read-value-lts.Need-begin-of-requires (read-value-calls t) (read-value-at t) read-value.Post
 read-value-begin-of-requires t c κs =
     let the-pre = c .before .before .pre in
-    (the-pre .1 .1 .0, the-pre .1 .1 .1)
+    (record { sw = c .before .before .args .rules .sw; token = the-pre .1 .1 .0 }, the-pre .1 .1 .1)
 
 read-value-enum-known-kind : (t : ℕ) → read-value-lts.Need-enum-known-kind (read-value-calls t) (read-value-at t) read-value.Post
 read-value-enum-known-kind t c = search needs
@@ -384,7 +384,7 @@ read-value-same-length : (t : ℕ) → read-value-lts.Need-same-length (read-val
 read-value-same-length t c = c .before .before .read-container .kept .1 .1 .0
 
 read-value-returns : (t : ℕ) → read-value-lts.Need-returns (read-value-calls t) (read-value-at t) read-value.Post
-read-value-returns t c = begins-as (begun-as (Z.Container _) (c .before .before .before .before .before .kind .given .1) (c .before .before .before .before .before .before .before .begin-of .ensures)) (c .before .before .read-container .ensures)
+read-value-returns t c = begins-as (begun-as (Z.Container _) (c .before .before .before .before .before .kind .given .1) (c .before .before .before .before .before .before .before .begin-of .ensures .is _ (c .before .before .before .before .before .before .before .before .before .before .pre .1 .1 .0))) (c .before .before .read-container .ensures)
 
 read-value-same-length-2 : (t : ℕ) → read-value-lts.Need-same-length-2 (read-value-calls t) (read-value-at t) read-value.Post
 read-value-same-length-2 t c = c .before .before .put-leaf .kept .1 .0
@@ -393,18 +393,18 @@ read-value-returns-2 : (t : ℕ) → read-value-lts.Need-returns-2 (read-value-c
 read-value-returns-2 t c =
     let the-pre = c .before .before .before .before .before .before .before .before .before .before .pre in
     let the-put-leaf = c .before .before .put-leaf in
-    leaf-read (the-pre .1 .0) (record { ordered = the-pre .1 .1 .0 .ordered; inside = the-pre .1 .1 .0 .inside; short = the-pre .1 .1 .1 }) (begun-as (Z.Scalar _) (c .before .before .before .before .before .words .given .1) (c .before .before .before .before .before .before .before .begin-of .ensures)) (the-put-leaf .ensures .0) (the-put-leaf .ensures .1)
+    leaf-read (the-pre .1 .0) (record { ordered = the-pre .1 .1 .0 .ordered; inside = the-pre .1 .1 .0 .inside; short = the-pre .1 .1 .1 }) (begun-as (Z.Scalar _) (c .before .before .before .before .before .words .given .1) (c .before .before .before .before .before .before .before .begin-of .ensures .is _ (the-pre .1 .1 .0))) (the-put-leaf .ensures .0) (the-put-leaf .ensures .1)
 
 read-value-same-length-3 : (t : ℕ) → read-value-lts.Need-same-length-3 (read-value-calls t) (read-value-at t) read-value.Post
 read-value-same-length-3 t c = c .before .before .read-identifier .kept .1 .1 .0
 
 read-value-returns-3 : (t : ℕ) → read-value-lts.Need-returns-3 (read-value-calls t) (read-value-at t) read-value.Post
-read-value-returns-3 t c = begins-as (begun-as Z.Identifier (c .before .before .before .before .enum-told .given .1) (c .before .before .before .before .before .before .begin-of .ensures)) (c .before .before .read-identifier .ensures)
+read-value-returns-3 t c = begins-as (begun-as Z.Identifier (c .before .before .before .before .enum-told .given .1) (c .before .before .before .before .before .before .begin-of .ensures .is _ (c .before .before .before .before .before .before .before .before .before .pre .1 .1 .0))) (c .before .before .read-identifier .ensures)
 
 read-value-returns-4 : (t : ℕ) → read-value-lts.Need-returns-4 (read-value-calls t) (read-value-at t) read-value.Post
 read-value-returns-4 t c =
     let the-args = c .before .before .before .before .before .args in
-    record { is = nothing-refused _ _ _ _ _ (the-args .due .fresh) (the-args .due .any) _ _ _ _ _ (begun-as Z.Nothing (c .enum-told2 .given .1) (c .before .before .begin-of .ensures)) }
+    record { is = nothing-refused _ _ _ _ _ (the-args .due .fresh) (the-args .due .any) _ _ _ _ _ (begun-as Z.Nothing (c .enum-told2 .given .1) (c .before .before .begin-of .ensures .is _ (c .before .before .before .before .before .pre .1 .1 .0))) }
 
 pub +read-container+read-identifier+read-value-spec : {M : Type 1} → statement M
 +read-container+read-identifier+read-value-spec =
