@@ -128,7 +128,7 @@ fn correct_read(
 }
 
 // Replaces one value of a text of the edition that `sw` says: the node's, by its number in the text's reading.
-pub fn correct_edition(
+pub(crate) fn correct_edition(
     sw: Switches,
     text: &mut [u8],
     journal: &mut [u8],
@@ -220,7 +220,7 @@ fn undo_read(present: Present, text: &mut [u8], journal: &[u8], table: &mut [u32
 
 // Takes back the last correction that the journal holds, in a text of the edition that `sw` says. The journal is only read: its entry
 // is cut off by the length that is answered.
-pub fn undo_edition(
+pub(crate) fn undo_edition(
     sw: Switches,
     text: &mut [u8],
     journal: &[u8],

@@ -1,5 +1,5 @@
 -- The law by which the readers above go on: the tokens from a place are the next token and the tokens from its end.
--- With it what one answer of `item_at` says of the tokens from its place, for the loop of `next_token`.
+-- With it what one answer of `item_by` says of the tokens from its place, for the loop of `next_token`.
 -- Assumes nothing.
 use mathlib.Core.Path.{_≡_, refl, sym, ap, _∙_, subst}
 use Prim.Native.Nat.{ℕ, zero, suc, _+_, _-_, _≤_, _<_}
@@ -22,7 +22,7 @@ use Rattle.lexer.specs.Token.{Form, Item, gap, token, fault, item, Token
 use Rattle.lexer.specs.Answer.{kindOf, found, foundAt, tokenNext, refusedNext, firstOf}
 use Rattle.lexer.proofs.TokenLaws.{EndsBy, item-ends, itemAt-ends, cut-left, cut-end, cut-within, from-gap, from-token, from-fault, Within}
 
--- ---- what an answer of `item_at` says
+-- ---- what an answer of `item_by` says
 
 module _ (at e : ℕ) where
   found-gap : (i : Item) → found at i ≡ F.Gap e → (more : ℕ) × (i ≡ gap more) × (e ≡ at + suc more)

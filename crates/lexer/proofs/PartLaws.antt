@@ -29,18 +29,21 @@ use Rattle.lexer.specs.declared.closing.Block.the-variants as B
 use Rattle.lexer.specs.declared.item.TokenKind.{TokenKind}
 use Rattle.lexer.specs.declared.item.Found.{Found}
 use Rattle.lexer.specs.declared.item.Found.the-variants as F
+use Rattle.lexer.specs.declared.item.Token as CT
+use Rattle.lexer.specs.declared.item.Next.{Next}
+use Rattle.lexer.specs.declared.item.Next.the-variants as X
 use Rattle.lexer.specs.declared.opening.StringHead.{StringHead}
 use Rattle.lexer.specs.declared.opening.Opening.{Opening}
 use Rattle.lexer.specs.declared.opening.Opening.the-variants as O
 use Rattle.lexer.specs.declared.token.Part.{Part}
 use Rattle.lexer.specs.Closing.{closing, block, notNewline}
-use Rattle.lexer.specs.Token.{Form, mark, word, text, bytes, integer, decimal, Item, gap, token, fault, blockItem, comment, contentItem, closedItem, hasEscapes, stringItem, stringForm, wordItem, meantItem, numberItem, itemOf, item, itemAt, keyContent, wholeItem, tokenContent}
+use Rattle.lexer.specs.Token.{Form, mark, word, text, bytes, integer, decimal, Item, gap, token, fault, blockItem, comment, contentItem, closedItem, hasEscapes, stringItem, stringForm, wordItem, meantItem, numberItem, itemOf, item, itemAt, keyContent, wholeItem, tokensFrom, tokenContent}
 use Rattle.lexer.specs.Opening.{openingOf, openedItem, wordPart, openedPart, partOf}
-use Rattle.lexer.specs.Answer.{kindOf, found, foundAt}
+use Rattle.lexer.specs.Answer.{kindOf, found, foundAt, tokenNext, refusedNext, firstOf}
 use Rattle.lexer.specs.Internal.{holdsContent, hasContent, Keyed}
 use Rattle.lexer.proofs.ClosingLaws.{closed-within}
 use Rattle.lexer.proofs.OpeningLaws.{head-within, mayOpen, opening-item, opening-none}
-use Rattle.lexer.proofs.NextLaws.{found-token, item-there}
+use Rattle.lexer.proofs.NextLaws.{found-token, item-there, after-gap, at-token, at-fault, at-end, next-ahead}
 
 -- ---- what the laws say
 
@@ -230,7 +233,7 @@ part-holds sw (b ∷ l) y = by (mayOpen (classNumber (classOf b))) refl
 pub part-is : (sw : Switches) (s : List ℕ) (p : Part) → Keyed sw s → p ≡ partOf sw s → PartIs sw s p
 part-is sw s p y e = subst (PartIs sw s) (sym e) (part-holds sw s y)
 
--- ---- what an answer of `item_at` says
+-- ---- what an answer of `next_token` says of the item at its place
 
 -- whether it is a token
 unfoldable pub isToken : Found → Bool
@@ -238,6 +241,38 @@ isToken (F.Gap e) = false
 isToken (F.Token k e) = true
 isToken (F.Refused n) = false
 isToken F.Nothing = false
+
+-- a token that begins at this place
+unfoldable pub BeginsAt : (at : ℕ) → Next → Type 0
+BeginsAt at (X.Token t) = t .span .start ≡ at
+BeginsAt at (X.End place) = ⊥
+BeginsAt at (X.Refused f) = ⊥
+
+module _ (sw : Switches) (s : List ℕ) (at : ℕ) (h : at ≤ length s) where
+  pub token-here : (t : CT.Token) → firstOf (tokensFrom sw s at) ≡ X.Token t → t .span .start ≡ at → foundAt sw s at ≡ F.Token (t .kind) (t .span .stop)
+  token-here t e b = go (foundAt sw s at) refl
+    where
+      go : (r : Found) → foundAt sw s at ≡ r → r ≡ F.Token (t .kind) (t .span .stop)
+      go (F.Gap k) q =
+          let g = after-gap sw s at k q in
+          let a = next-ahead sw s k (t .kind) (t .span .start) (t .span .stop) (g .2) (ap firstOf (sym (g .0)) ∙ e) in
+          let w = a .after in absurd (omega arith)
+      go (F.Token k z) q =
+          let p : tokenNext k at z ≡ X.Token t = sym (at-token sw s at k z q) ∙ e in
+          let u : _≡_ {A = CT.Token} (record { kind = k; span = record { start = at; stop = z } }) t = cc in
+          λ i. F.Token (u i .kind) (u i .span .stop)
+      go (F.Refused n) q = let p : refusedNext n at ≡ X.Token t = sym (at-fault sw s at n q) ∙ e in let z : _≡_ {A = ℕ} 0 1 = cc in absurd (omega arith)
+      go F.Nothing q = let p : X.End at ≡ X.Token t = sym (at-end sw s at q) ∙ e in let z : _≡_ {A = ℕ} 0 1 = cc in absurd (omega arith)
+
+  pub none-here : (r : Next) → firstOf (tokensFrom sw s at) ≡ r → (BeginsAt at r → ⊥) → isToken (foundAt sw s at) ≡ false
+  unfolding isToken BeginsAt
+  none-here r e n = go (foundAt sw s at) refl
+    where
+      go : (f : Found) → foundAt sw s at ≡ f → isToken f ≡ false
+      go (F.Gap k) q = refl
+      go (F.Token k z) q = absurd (n (subst (BeginsAt at) (sym (at-token sw s at k z q) ∙ e) refl))
+      go (F.Refused m) q = refl
+      go F.Nothing q = refl
 
 kind-content : (form : Form) → hasContent (keyContent form) ≡ holdsContent (kindOf form)
 unfolding hasContent keyContent holdsContent kindOf
@@ -259,10 +294,10 @@ module _ (sw : Switches) where
   unfolding foundAt itemAt
   here b l = rw (lt-ltb 0 (suc (length l)) (omega arith))
 
-  pub no-token : (s : List ℕ) (r : Found) → foundAt sw s 0 ≡ r → isToken r ≡ false → false ≡ hasContent (tokenContent sw s)
+  pub no-token : (s : List ℕ) → isToken (foundAt sw s 0) ≡ false → false ≡ hasContent (tokenContent sw s)
   unfolding tokenContent hasContent
-  no-token [] r q e = refl
-  no-token (b ∷ l) r q e = sym (ap hasContent (item-none (length l) (item sw b l) (ap isToken (sym (here b l) ∙ q) ∙ e)))
+  no-token [] e = refl
+  no-token (b ∷ l) e = sym (ap hasContent (item-none (length l) (item sw b l) (ap isToken (sym (here b l)) ∙ e)))
 
   -- a token, with what more of it there is than its first byte
   whole-token : (s : List ℕ) (k : TokenKind) (e : ℕ) → foundAt sw s 0 ≡ F.Token k e

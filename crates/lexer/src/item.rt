@@ -228,13 +228,6 @@ fn item_by(classes: &[u8; 256], sw: Switches, text: &[u8], at: usize) -> Found
     }
 }
 
-pub(crate) fn item_at(sw: Switches, text: &[u8], at: usize) -> Found
-    ensures { λ r. ⌜ r ≡ foundAt sw (now (text .entry)) at ⌝ }
-{
-    let table = classes();
-    item_by(&table, sw, text, at)
-}
-
 // The next token from a place, spaces and comments skipped; or the end; or what is refused before any token.
 pub fn next_token(sw: Switches, text: &[u8], at: usize) -> Next
     ensures { λ r. ⌜ r ≡ firstOf (tokensFrom sw (now (text .entry)) at) ⌝ }

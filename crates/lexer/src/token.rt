@@ -5,10 +5,10 @@ ghost use Rattle.literals.specs.Content.{content, fitted, placed, sameContent};
 ghost use Rattle.lexer.specs.Token.{tokenContent};
 ghost use Rattle.lexer.specs.Opening.{wordPart, partOf};
 ghost use Rattle.lexer.specs.Internal.{isKey, holdsContent, hasContent, Keyed};
-use super::item::Found;
+use super::item::Next;
 use super::item::Token;
 use super::item::TokenKind;
-use super::item::item_at;
+use super::item::next_token;
 use super::opening::Opening;
 use super::opening::opening_of;
 use literals::compare::same_content;
@@ -85,9 +85,10 @@ pub fn is_key(token: Token) -> bool
 }
 
 // Whether a token is a string or key: a word, a text or bytes.
-fn holds_content(kind: TokenKind) -> bool
-    ensures { λ r. ⌜ r ≡ holdsContent kind ⌝ }
+fn holds_content(token: Token) -> bool
+    ensures { λ r. ⌜ r ≡ holdsContent (token .kind) ⌝ }
 {
+    let kind = token.kind;
     match kind {
         TokenKind::Mark(_) => false,
         TokenKind::Word => true,
@@ -108,16 +109,18 @@ fn holds_content(kind: TokenKind) -> bool
 pub fn is_keyed(sw: Switches, token: &[u8]) -> bool
     ensures { λ r. ⌜ r ≡ hasContent (tokenContent sw (now (token .entry))) ⌝ }
 {
-    match item_at(sw, token, 0) {
-        Found::Gap(_) => false,
-        Found::Token(kind, end) => {
-            if end == token.len() {
-                return holds_content(kind);
+    match next_token(sw, token, 0) {
+        Next::Token(next) => {
+            if next.span.start != 0 {
+                return false;
             }
-            false
+            if next.span.stop != token.len() {
+                return false;
+            }
+            holds_content(next)
         }
-        Found::Refused(_) => false,
-        Found::Nothing => false,
+        Next::End(_) => false,
+        Next::Refused(_) => false,
     }
 }
 

@@ -34,7 +34,13 @@ fn token_content(sw: Switches, token: &[u8], out: &mut [u8]) -> Given
 
 // Writes the content of the string or key that stands in the text, of the edition that `sw` says, from `start` to before `end` at the
 // output's front.
-pub fn content_edition(sw: Switches, text: &[u8], start: usize, end: usize, out: &mut [u8]) -> Given
+pub(crate) fn content_edition(
+    sw: Switches,
+    text: &[u8],
+    start: usize,
+    end: usize,
+    out: &mut [u8],
+) -> Given
     ensures { λ r. ⌜ (r ≡ contentGiven (contentCall sw start end (now (text .entry)) (now (out .entry)))) × (now (out .exit) ≡ written (contentCall sw start end (now (text .entry)) (now (out .entry))) (now (out .entry))) ⌝ }
 {
     if end < start {
