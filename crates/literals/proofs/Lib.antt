@@ -6,6 +6,6 @@ pub mod StepLaws
 pub mod PlainLaws
 pub mod TallyLaws
 pub mod FillLaws
+pub mod CopyLaws
 pub mod PairLaws
-pub mod SpellingLaws
 pub mod CursorLaws

@@ -45,15 +45,15 @@ module _ (sw : Switches) (b : ℕ) (B : PlainByte b) where
   short : b ≡ 0x7F → ⊥
   short e = let m = B .high in omega arith
 
-  quoted-plain : decodeStep sw Plain b ≡ gives Plain (One b)
+  pub quoted-plain : decodeStep sw Plain b ≡ gives Plain (One b)
   unfolding decodeStep plainStep
   quoted-plain = rw (ne-eqb b 0x5C (B .apart), ← quoted-high sw b past, ne-eqb b 0x7F short)
 
-  raw-plain : decodeStep sw Verbatim b ≡ gives Verbatim (One b)
+  pub raw-plain : decodeStep sw Verbatim b ≡ gives Verbatim (One b)
   unfolding decodeStep rawStep
   raw-plain = rw (← raw-high sw b past short)
 
-  word-plain : decodeStep sw Letters b ≡ gives Letters (One b)
+  pub word-plain : decodeStep sw Letters b ≡ gives Letters (One b)
   unfolding decodeStep
   word-plain = refl
 

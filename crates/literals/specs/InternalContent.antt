@@ -2,25 +2,21 @@
 -- Assumes nothing.
 use Prim.Native.Nat.{ℕ, zero, suc, _+_, _-_, _*_, _/_, _<_, _≤_}
 use mathlib.Core.Path.{_≡_}
-use mathlib.Core.Logic.{_⊎_}
 use mathlib.Core.Bool.{Bool, true, false, cond}
 use mathlib.Core.Option.{Option, none, some}
 use mathlib.Core.List.{List, [], _∷_}
-use lib.Dec.{eqb}
-use lib.ListN.{length, drop, getD}
+use lib.ListN.{length, take, drop, getD}
 use Rattle.text.specs.declared.switches.Switches.{Switches}
 use Rattle.text.specs.declared.few.Few.{Few}
-use Rattle.text.specs.declared.few.Few.the-variants.{Zero, One}
-use Rattle.text.specs.Bytes.{is}
+use Rattle.text.specs.declared.few.Few.the-variants.{One}
 use Rattle.text.specs.Utf8.{listed}
 use Rattle.literals.specs.declared.decoder.Body.{Body}
-use Rattle.literals.specs.declared.decoder.Body.the-variants.{Quoted}
 use Rattle.literals.specs.declared.decoder.Decoder.{Decoder}
 use Rattle.literals.specs.declared.decoder.Decoder.the-variants.{Plain, Escape, Hex, Verbatim, Letters, Digits, Pads, Bad}
 use Rattle.literals.specs.declared.compare.Cursor.{Cursor}
 use Rattle.literals.specs.declared.compare.Piece.{Piece}
 use Rattle.literals.specs.declared.compare.Piece.the-variants as P
-use Rattle.literals.specs.Content.{gives, decodeStep, startOf, prepend, decoded, content, sameContent}
+use Rattle.literals.specs.Content.{gives, decodeStep, startOf, prepend, decoded}
 
 -- an escape's value so far is below this, where `left` digits are due after the next one: then a byte, or 32 bits, hold it at the end
 unfoldable pub hexRoom : (byte : Bool) (left : ℕ) → ℕ
@@ -51,6 +47,15 @@ unfoldable pub HasRoom : Option (List ℕ) → (room : ℕ) → Type 0
 HasRoom none room = ⊥
 HasRoom (some bytes) room = length bytes ≤ room
 
+-- a content w that was written from `at` on ends at r; if it has no room, r lies behind the output
+pub record CopiedAs (w : List ℕ) (at : ℕ) (out : List ℕ) (r : ℕ) : Type 0 where
+  pub fits : r ≤ length out → (r ≡ at + length w) × (drop at (take r out) ≡ w)
+  pub long : length out < r → length out < at + length w
+
+-- the same of a body, if it has a content
+pub record Copied (o : Option (List ℕ)) (at : ℕ) (out : List ℕ) (r : ℕ) : Type 0 where
+  pub is : (w : List ℕ) → o ≡ some w → CopiedAs w at out r
+
 -- ---- bytes that stand for themselves
 
 -- printable ASCII other than the backslash
@@ -70,45 +75,9 @@ pub record AsWritten (body : Body) (s : List ℕ) (n : ℕ) : Type 0 where
   pub low : (k : ℕ) → k < n → getD s k 0 ≤ 0x7F
   pub same : (sw : Switches) (k : ℕ) → k < n → decodeStep sw (startOf body) (getD s k 0) ≡ gives (startOf body) (One (getD s k 0))
 
--- the decoder refuses a byte, or takes it for itself and stays, unless it is a backslash
-pub record Steady (st : Decoder) : Type 0 where
-  pub step : (sw : Switches) (b : ℕ) → (b ≡ 0x5C → ⊥) → (decodeStep sw st b ≡ gives Bad Zero) ⊎ (decodeStep sw st b ≡ gives st (One b))
-
--- so it is all through a body, if the answer is true
-pub record SteadyIf (body : Body) (r : Bool) : Type 0 where
-  pub is : r ≡ true → Steady (startOf body)
-
--- what such decoders make of two runs of bytes is not the same, if the answer is true
-pub record FrontApart (a b : List ℕ) (r : Bool) : Type 0 where
-  pub is : r ≡ true → (sw : Switches) (st su : Decoder) → Steady st → Steady su → sameContent (decoded sw st a) (decoded sw su b) ≡ false
-
--- a body's content is its bytes, or it has none, if the answer is true
-pub record VerbatimIf (body : Body) (r : Bool) : Type 0 where
-  pub is : r ≡ true → (sw : Switches) (s : List ℕ) → (content sw body s ≡ none) ⊎ (content sw body s ≡ some s)
-
--- a body is quoted, if the answer is true
-pub record QuotedIf (body : Body) (r : Bool) : Type 0 where
-  pub is : r ≡ true → body ≡ Quoted
-
--- nothing of an escape is due, and neither byte is a backslash, if the answer is true
-pub record Telling (due x y : ℕ) (r : Bool) : Type 0 where
-  pub is : r ≡ true → (due ≡ 0) × (x ≡ 0x5C → ⊥) × (y ≡ 0x5C → ⊥)
-
--- the digits that are due after an escape's letter
-unfoldable pub letterDue : ℕ → ℕ
-letterDue b = cond (is "x" b) 2 (cond (is "u" b) 4 (cond (is "U" b) 8 0))
-
--- what is due of an escape after one byte more: its letter (9), so many digits, or nothing
-unfoldable pub nextDue : (due b : ℕ) → ℕ
-nextDue due b = cond (eqb due 0) (cond (is "\\" b) 9 0) (cond (eqb due 9) (letterDue b) (due - 1))
-
--- what two quoted bodies decode to is not the same, if the answer is true
-pub record SpelledApart (a b : List ℕ) (r : Bool) : Type 0 where
-  pub is : r ≡ true → (sw : Switches) → sameContent (decoded sw Plain a) (decoded sw Plain b) ≡ false
-
--- two bodies have not the same content, if the answer is true
-pub record Apart (abody : Body) (a : List ℕ) (bbody : Body) (b : List ℕ) (r : Bool) : Type 0 where
-  pub is : r ≡ true → (sw : Switches) → sameContent (content sw abody a) (content sw bbody b) ≡ false
+-- a byte stands for itself and leaves the decoder in its state, if the answer is true
+pub record OwnByteIf (st : Decoder) (b : ℕ) (r : Bool) : Type 0 where
+  pub is : r ≡ true → (sw : Switches) → decodeStep sw st b ≡ gives st (One b)
 
 -- ---- cursors
 

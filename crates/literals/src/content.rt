@@ -4,10 +4,12 @@ ghost use mathlib.Core.Path.{_≡_};
 ghost use lib.ListN.{length};
 ghost use Rattle.literals.specs.Content.{content, contentOf, measured, fitted, placed};
 ghost use Rattle.literals.specs.InternalContent.{HasRoom, PlainFront, AsWritten};
+use crate::copy::is_own_byte;
 use crate::decoder::Body;
 use crate::decoder::decode_step;
 use crate::decoder::may_end;
 use crate::decoder::start_of;
+use text::few::Few;
 use text::few::feed_text;
 use text::few::few_len;
 use text::few::put_few;
@@ -72,12 +74,18 @@ pub fn measure_content(sw: Switches, is_text: bool, body: Body, s: &[u8]) -> Mea
     let mut size = from;
     let mut i = from;
     while i < s.len() {
-        let step = decode_step(sw, state, s[i]);
-        let out = step.out;
-        state = step.state;
-        size += few_len(out);
-        machine = feed_text(is_text, machine, out);
+        let b = s[i];
         i += 1;
+        if is_own_byte(state, b) {
+            size += 1;
+            machine = feed_text(is_text, machine, Few::One(b));
+        } else {
+            let step = decode_step(sw, state, b);
+            let out = step.out;
+            state = step.state;
+            size += few_len(out);
+            machine = feed_text(is_text, machine, out);
+        }
     }
     if may_end(state) {
         if is_text {

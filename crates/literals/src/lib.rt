@@ -2,6 +2,7 @@
 // judged and nothing else of the text, and is total on every slice.
 pub mod compare;
 pub mod content;
+pub mod copy;
 pub mod decoder;
 pub mod number;
 pub mod word;

@@ -2,7 +2,7 @@
 -- Assumes nothing.
 use mathlib.Core.Path.{_≡_, refl, ap, sym, subst, _∙_}
 use mathlib.Core.List.{List, [], _∷_, _++_}
-use mathlib.Core.Option.{none}
+use mathlib.Core.Option.{Option, none}
 use mathlib.Core.Bool.{Bool, true, false, _&&_, true≢false}
 use Prim.Native.Nat.{ℕ, suc, _+_, _*_, _<_, _≤_}
 use native.Mathlib.Numerals.{add-one}
@@ -24,18 +24,19 @@ use Rattle.text.specs.declared.span.Span as CS
 use Rattle.lexer.specs.declared.item.Token as CT
 use Rattle.reader.specs.declared.items.Item.{Item}
 use Rattle.reader.specs.declared.items.Item.the-variants as I
+use Rattle.reader.specs.declared.duplicates.Duplicate.{Duplicate}
+use Rattle.reader.specs.declared.duplicates.Duplicate.the-variants as D
 use Rattle.reader.specs.declared.values.Progress.{Progress}
 use Rattle.reader.specs.declared.values.Progress.the-variants as A
 use Rattle.reader.specs.Tree.{Span, branch, Forest, nil, snoc, count, size, sizes, headOf, rows, rowsAll, nodeWords}
-use Rattle.reader.specs.Reading.{maxText}
-use Rattle.reader.specs.Syntax.{Label, label, Frame, frame, Slot, after, more, Mode, value, inside, Config, config, refuseIf, Begins, container, isObject, headBy, ended, finished, noNode, counted, valueStep, Outcome, afterStep}
-use Rattle.reader.specs.Internal.Values
+use Rattle.reader.specs.Reading.{maxText, maxNodes}
+use Rattle.reader.specs.Syntax.{Label, label, Frame, frame, Slot, after, Mode, value, Config, config, refuseIf, Begins, container, isObject, headBy, ended, finished, noNode, counted, valueStep, Outcome, refused, afterStep}
 use Rattle.reader.specs.Internal.Tokens.{beginsAt}
-use Rattle.reader.specs.Internal.Values.{spanAt, labelOf, SpansApart, freshDue, rowOf, branchWords, runFrom, nodesAt, opened, openedHere, SiblingKeys, slotOf, innerAt, Known, Look, Valued, Ends, Refuses, ItemIs, Ready, Roomy, ValueRead, ValueRefused, ProgressIs, openedBy, ReadAs}
-use Rattle.reader.proofs.ItemRun.{Follows, Closes, FollowsNot}
+use Rattle.reader.specs.Internal.Values.{spanAt, labelOf, SpansApart, freshDue, runFrom, nodesAt, opened, openedHere, KeyAt, SiblingKeys, duplicateIn, keyDuplicate, unlessDuplicate, placeOf, turnOf, innerAt, Known, Look, Valued, Ends, Refuses, ItemIs, ChildAt, Ready, Roomy, ValueRead, ValueRefused, ProgressIs, openedBy, ReadAs, Keys, FirstDuplicate, RefusedLate, ChildRefusedLate, branchProgress, branchTable, BranchEnded}
 use Rattle.reader.proofs.SizeLaws.{sizes-snoc, count-snoc}
 use Rattle.text.proofs.ListLaws.{getD-before-sets}
 use Rattle.reader.proofs.KeyWalk.{siblings-more}
+use Rattle.reader.proofs.DuplicateLaws.{unless-sooner, duplicate-in-more, duplicate-in-none, siblings-kept, duplicate-in-kept}
 use Rattle.reader.proofs.RowLaws.{rows-child, rows-branch, size-pos, row-says}
 
 pub record Body (sw : Switches) (limits : Limits) (s : List ℕ) (kind : Kind) (l : Label) (ω : List Frame → Outcome) (o d n : ℕ) (tin : List ℕ) (ts : Forest) (ks : List (List ℕ)) (τ : List Frame → Config) (i m z : ℕ) (tab : List ℕ) : Type 0 where
@@ -49,10 +50,10 @@ pub record Body (sw : Switches) (limits : Limits) (s : List ℕ) (kind : Kind) (
   pub long : length tab ≡ length tin
   pub wrote : tab ≡ sets tin (nodeWords * (n + 1)) (rowsAll n (n + 1) ts)
   pub siblings : isObject kind ≡ true → SiblingKeys sw s tab (n + 1) m ks
-  pub ran : (stack : List Frame) → length stack ≡ d → ω stack ≡ runFrom sw limits s i (τ stack)
+  pub ran : (stack : List Frame) → length stack ≡ d → ω stack ≡ unlessDuplicate (duplicateIn kind tab (n + 1) ks) (runFrom sw limits s i (τ stack))
 
 abbrev pub Within : (sw : Switches) (limits : Limits) (s : List ℕ) (kind : Kind) (l : Label) (ω : List Frame → Outcome) (o d n : ℕ) (tin : List ℕ) (ts : Forest) (ks : List (List ℕ)) (i m z : ℕ) (tab : List ℕ) → Type 0
-Within sw limits s kind l ω o d n tin ts ks i m z tab = Body sw limits s kind l ω o d n tin ts ks (λ stack. innerAt kind l ts ks stack m z) i m z tab
+Within sw limits s kind l ω o d n tin ts ks i m z tab = Body sw limits s kind l ω o d n tin ts ks (λ stack. innerAt kind l ts ks stack m (turnOf z)) i m z tab
 
 -- ---- answers by their cases
 
@@ -72,19 +73,19 @@ module _ {rules : Rules} {s : List ℕ} {due : Due} {p : CS.Span} {b : Begins} {
   begins-as e h = subst (λ (x : Begins). ReadAs rules s due p x tin tout r) (sym e) h
 
 module _ {sw : Switches} {s : List ℕ} {kind : Kind} {tab : List ℕ} {c : Children} {i : ℕ} {r : Item} where
-  pub value-is : {x : ℕ} {t : CT.Token} {key : CS.Span} → c .first ≡ x → r ≡ I.Value t key → Values.ItemAt sw s kind tab c i r
-      → Valued sw s kind tab i x (c .next) (c .count) (t .kind) (t .span .start) (t .span .stop) (key .start) (key .stop)
+  pub value-is : {x : ℕ} {t : CT.Token} {key : CS.Span} → c .first ≡ x → r ≡ I.Value t key → ChildAt sw s kind tab c i r
+      → Valued sw s kind tab i x (c .next) (turnOf (c .count)) (t .kind) (t .span .start) (t .span .stop) (key .start) (key .stop)
   value-is {x} {t} {key} f e h =
-      subst (λ (y : ℕ). Valued sw s kind tab i y (c .next) (c .count) (t .kind) (t .span .start) (t .span .stop) (key .start) (key .stop)) f
-      (subst (ItemIs sw s kind tab i (c .first) (c .next) (c .count)) e (h .is))
+      subst (λ (y : ℕ). Valued sw s kind tab i y (c .next) (turnOf (c .count)) (t .kind) (t .span .start) (t .span .stop) (key .start) (key .stop)) f
+      (subst (ItemIs sw s kind tab i (c .first) (c .next) (turnOf (c .count))) e (h .is))
 
-  pub last-is : {x j : ℕ} → c .first ≡ x → r ≡ I.Last j → Values.ItemAt sw s kind tab c i r → Ends sw s kind tab i x (c .next) (c .count) j
+  pub last-is : {x j : ℕ} → c .first ≡ x → r ≡ I.Last j → ChildAt sw s kind tab c i r → Ends sw s kind tab i x (c .next) (turnOf (c .count)) j
   last-is {x} {j} f e h =
-      subst (λ (y : ℕ). Ends sw s kind tab i y (c .next) (c .count) j) f (subst (ItemIs sw s kind tab i (c .first) (c .next) (c .count)) e (h .is))
+      subst (λ (y : ℕ). Ends sw s kind tab i y (c .next) (turnOf (c .count)) j) f (subst (ItemIs sw s kind tab i (c .first) (c .next) (turnOf (c .count))) e (h .is))
 
-  pub item-refused : {x : ℕ} {f : Refusal} → c .first ≡ x → r ≡ I.Refused f → Values.ItemAt sw s kind tab c i r → Refuses sw s kind tab i x (c .next) (c .count) (f .number) (f .place)
+  pub item-refused : {x : ℕ} {f : Refusal} → c .first ≡ x → r ≡ I.Refused f → ChildAt sw s kind tab c i r → Refuses sw s kind tab i x (c .next) (turnOf (c .count)) (f .number) (f .place)
   item-refused {x} {f} q e h =
-      subst (λ (y : ℕ). Refuses sw s kind tab i y (c .next) (c .count) (f .number) (f .place)) q (subst (ItemIs sw s kind tab i (c .first) (c .next) (c .count)) e (h .is))
+      subst (λ (y : ℕ). Refuses sw s kind tab i y (c .next) (turnOf (c .count)) (f .number) (f .place)) q (subst (ItemIs sw s kind tab i (c .first) (c .next) (turnOf (c .count))) e (h .is))
 
 -- ---- a value that is due afresh
 
@@ -111,10 +112,27 @@ fresh-ready {limits} {tab} e w b ok =
       unnamed = λ _. refl;
     })
 
+-- ---- what comes late, by the first child's node
+
+module _ {sw : Switches} {s : List ℕ} {kind : Kind} {tab : List ℕ} {c : Children} {x : ℕ} (e : c .first ≡ x) where
+  first-from : {r : Duplicate} → FirstDuplicate sw s kind tab c r → (ks : List (List ℕ)) → Known sw s kind tab x (c .next) ks → placeOf r ≡ duplicateIn kind tab x ks
+  first-from {r} F ks = subst (λ (y : ℕ). Known sw s kind tab y (c .next) ks → placeOf r ≡ duplicateIn kind tab y ks) e (F .is ks)
+
+  late-from : {f r : Refusal} → RefusedLate sw s kind tab c f r → (ks : List (List ℕ)) → Known sw s kind tab x (c .next) ks
+      → refused (r .number) (r .place) ≡ unlessDuplicate (duplicateIn kind tab x ks) (refused (f .number) (f .place))
+  late-from {f} {r} L ks =
+      subst (λ (y : ℕ). Known sw s kind tab y (c .next) ks → refused (r .number) (r .place) ≡ unlessDuplicate (duplicateIn kind tab y ks) (refused (f .number) (f .place))) e (L .is ks)
+
+  child-late-from : {key : CS.Span} {f r : Refusal} → ChildRefusedLate sw s kind tab c key f r → (ks : List (List ℕ)) → Known sw s kind tab x (c .next) ks
+      → (w : List ℕ) → (isObject kind ≡ true → KeyAt sw s (key .start) (key .stop) w)
+      → refused (r .number) (r .place) ≡ unlessDuplicate (duplicateIn kind tab x ks) (unlessDuplicate (keyDuplicate kind (key .start) ks w) (refused (f .number) (f .place)))
+  child-late-from {key} {f} {r} L ks =
+      subst (λ (y : ℕ). Known sw s kind tab y (c .next) ks → (w : List ℕ) → (isObject kind ≡ true → KeyAt sw s (key .start) (key .stop) w) → refused (r .number) (r .place) ≡ unlessDuplicate (duplicateIn kind tab y ks) (unlessDuplicate (keyDuplicate kind (key .start) ks w) (refused (f .number) (f .place)))) e (L .is ks)
+
 -- ---- the loop
 
-slot-more : (z : ℕ) → 0 < z → slotOf z ≡ more
-slot-more z h = let n : z ≡ 0 → ⊥ = λ q. omega arith in rw (ne-eqb z 0 n)
+turn-after : (z : ℕ) → after ≡ turnOf (z + 1)
+turn-after z = let n : z + 1 ≡ 0 → ⊥ = λ q. omega arith in rw (ne-eqb (z + 1) 0 n)
 
 module _ {sw : Switches} {limits : Limits} {s : List ℕ} {kind : Kind} {l : Label} {ω : List Frame → Outcome} {o d n : ℕ} {tin : List ℕ} where
   known : {ts : Forest} {ks : List (List ℕ)} {τ : List Frame → Config} {i m z : ℕ} {tab : List ℕ} → Body sw limits s kind l ω o d n tin ts ks τ i m z tab → Known sw s kind tab (n + 1) m ks
@@ -133,9 +151,9 @@ module _ {sw : Switches} {limits : Limits} {s : List ℕ} {kind : Kind} {l : Lab
 
   -- a child was read
   pub body-value : {ts : Forest} {ks : List (List ℕ)} {i m z : ℕ} {tab : List ℕ} {k : TokenKind} {start stop a b : ℕ} {out : List ℕ} {j e : ℕ}
-      → Within sw limits s kind l ω o d n tin ts ks i m z tab → (I : Valued sw s kind tab i (n + 1) m z k start stop a b)
+      → Within sw limits s kind l ω o d n tin ts ks i m z tab → (I : Valued sw s kind tab i (n + 1) m (turnOf z) k start stop a b)
       → (T : ValueRead sw limits s (openedHere sw limits s start stop true (spanAt a b) m) (label start (spanAt a b) none) start (d + 1) n m tab out j e) → length out ≡ length tab
-      → Body sw limits s kind l ω o d n tin (snoc ts (T .tree)) (I .keys ks) (λ stack. config (frame kind l (snoc ts (T .tree)) (I .keys ks) ∷ stack) (inside after) e) j e (z + 1) out
+      → Within sw limits s kind l ω o d n tin (snoc ts (T .tree)) (I .keys ks) j e (z + 1) out
   unfolding ended finished
   body-value {ts} {ks} {i} {m} {z} {tab} {k} {start} {stop} {a} {b} {out} {j} {e} B I T L =
       let c = count-snoc ts (T .tree) in
@@ -166,51 +184,20 @@ module _ {sw : Switches} {limits : Limits} {s : List ℕ} {kind : Kind} {l : Lab
         ran =
             λ stack h.
             let u : suc (length stack) ≡ d + 1 = omega arith in
-            B .ran stack h ∙ I .ran limits l ts ks stack (known B) ∙ T .ran (frame kind l ts (I .keys ks) ∷ stack) u;
-      }
-
-  pub body-more : {ts : Forest} {ks : List (List ℕ)} {i m z : ℕ} {tab : List ℕ} {j : ℕ}
-      → Body sw limits s kind l ω o d n tin ts ks (λ stack. config (frame kind l ts ks ∷ stack) (inside after) m) i m z tab → Follows sw s kind i j → 0 < z
-      → Within sw limits s kind l ω o d n tin ts ks j m z tab
-  body-more {ts} {ks} {i} {m} {z} {tab} {j} B A u =
-      record {
-        counted = B .counted;
-        grew = B .grew;
-        few = B .few;
-        below = B .below;
-        ahead = omega (arith, B .ahead, A .ahead);
-        inside = A .within;
-        room = B .room;
-        long = B .long;
-        wrote = B .wrote;
-        siblings = B .siblings;
-        ran =
-            λ stack h.
-            B .ran stack h ∙ A .ran limits l ts ks stack m
-            ∙ ap (λ (x : Slot). runFrom sw limits s j (config (frame kind l ts ks ∷ stack) (inside x) m)) (sym (slot-more z u));
+            B .ran stack h
+            ∙ ap (unlessDuplicate (duplicateIn kind tab (n + 1) ks)) (I .ran limits l ts ks stack (known B) ∙ ap (unlessDuplicate (keyDuplicate kind a ks (I .content))) (T .ran (frame kind l ts (I .keys ks) ∷ stack) u))
+            ∙ sym (unless-sooner (duplicateIn kind tab (n + 1) ks) (keyDuplicate kind a ks (I .content)) (runFrom sw limits s j (innerAt kind l (snoc ts (T .tree)) (I .keys ks) stack e after)))
+            ∙ ap (λ (q : Option ℕ). unlessDuplicate q (runFrom sw limits s j (innerAt kind l (snoc ts (T .tree)) (I .keys ks) stack e after)))
+            (sym (duplicate-in-more sw s tab out m (m + size (T .tree)) a b (I .content)
+            (λ x lt. ap (λ (v : List ℕ). getD v x 0) (T .wrote) ∙ getD-before-sets (rows n m (T .tree)) tab x (nodeWords * m) lt)
+            (row-says tab out n m a b (T .tree) (T .keyed) (I .apart) (omega (arith, B .long)) (T .wrote))
+            kind (n + 1) ks (I .keys ks) (B .siblings) (λ q. I .added q ks)))
+            ∙ ap (λ (x : Slot). unlessDuplicate (duplicateIn kind out (n + 1) (I .keys ks)) (runFrom sw limits s j (innerAt kind l (snoc ts (T .tree)) (I .keys ks) stack e x))) (turn-after z);
       }
 
   -- the container's end
-  pub body-over : {ts : Forest} {ks : List (List ℕ)} {i m z : ℕ} {tab : List ℕ} {j : ℕ}
-      → Body sw limits s kind l ω o d n tin ts ks (λ stack. config (frame kind l ts ks ∷ stack) (inside after) m) i m z tab → Closes sw s kind i j
-      → Body sw limits s kind l ω o d n tin ts ks (λ stack. ended stack m (l .name) (branch (headBy l j) kind ts)) j m z tab
-  body-over {ts} {ks} {i} {m} {z} {tab} {j} B A =
-      record {
-        counted = B .counted;
-        grew = B .grew;
-        few = B .few;
-        below = B .below;
-        ahead = omega (arith, B .ahead, A .ahead);
-        inside = A .within;
-        room = B .room;
-        long = B .long;
-        wrote = B .wrote;
-        siblings = B .siblings;
-        ran = λ stack h. B .ran stack h ∙ A .ran limits l ts ks stack m;
-      }
-
   pub body-last : {ts : Forest} {ks : List (List ℕ)} {i m z : ℕ} {tab : List ℕ} {j : ℕ}
-      → Within sw limits s kind l ω o d n tin ts ks i m z tab → Ends sw s kind tab i (n + 1) m z j
+      → Within sw limits s kind l ω o d n tin ts ks i m z tab → Ends sw s kind tab i (n + 1) m (turnOf z) j
       → Body sw limits s kind l ω o d n tin ts ks (λ stack. ended stack m (l .name) (branch (headBy l j) kind ts)) j m z tab
   body-last {ts} {ks} {i} {m} {z} {tab} {j} B I =
       record {
@@ -224,55 +211,102 @@ module _ {sw : Switches} {limits : Limits} {s : List ℕ} {kind : Kind} {l : Lab
         long = B .long;
         wrote = B .wrote;
         siblings = B .siblings;
-        ran = λ stack h. B .ran stack h ∙ I .ran limits l ts ks stack (known B);
+        ran = λ stack h. B .ran stack h ∙ ap (unlessDuplicate (duplicateIn kind tab (n + 1) ks)) (I .ran limits l ts ks stack (known B));
       }
 
-  pub body-item-refused : {ts : Forest} {ks : List (List ℕ)} {i m z : ℕ} {tab : List ℕ} {c q : ℕ}
-      → Within sw limits s kind l ω o d n tin ts ks i m z tab → Refuses sw s kind tab i (n + 1) m z c q → ValueRefused ω d n tin tab c q
-  body-item-refused {ts} {ks} B I = record { ran = λ stack h. B .ran stack h ∙ I .ran limits l ts ks stack (known B); kept = body-kept B }
+  -- what a search for its duplicate keys is handed
+  pub body-keys : {ts : Forest} {ks : List (List ℕ)} {τ : List Frame → Config} {i z : ℕ} {tab : List ℕ} {c : Children} → c .first ≡ n + 1 → limits .nodes ≤ maxNodes
+      → Body sw limits s kind l ω o d n tin ts ks τ i (c .next) z tab → Keys sw s kind tab c
+  body-keys {ts} {ks} {τ} {i} {z} {tab} {c} e h B =
+      record {
+        siblings = λ q. record { keys = ks; siblings = subst (λ (x : ℕ). SiblingKeys sw s tab x (c .next) ks) (sym e) (B .siblings q) };
+        not-root = omega arith;
+        few = omega (arith, B .below);
+      }
 
-  pub body-child-refused : {ts : Forest} {ks : List (List ℕ)} {i m z : ℕ} {tab : List ℕ} {k : TokenKind} {start stop a b : ℕ} {out : List ℕ} {c q : ℕ}
-      → Within sw limits s kind l ω o d n tin ts ks i m z tab → Valued sw s kind tab i (n + 1) m z k start stop a b
-      → ValueRefused (openedHere sw limits s start stop true (spanAt a b) m) (d + 1) m tab out c q → ValueRefused ω d n tin out c q
-  body-child-refused {ts} {ks} {i} {m} B I T =
+  pub body-item-refused : {ts : Forest} {ks : List (List ℕ)} {i : ℕ} {tab : List ℕ} {c : Children} {f r : Refusal} → c .first ≡ n + 1
+      → Within sw limits s kind l ω o d n tin ts ks i (c .next) (c .count) tab → Refuses sw s kind tab i (n + 1) (c .next) (turnOf (c .count)) (f .number) (f .place) → RefusedLate sw s kind tab c f r
+      → ValueRefused ω d n tin tab (r .number) (r .place)
+  body-item-refused {ts} {ks} {i} {tab} e B I L =
+      record {
+        ran = λ stack h. B .ran stack h ∙ ap (unlessDuplicate (duplicateIn kind tab (n + 1) ks)) (I .ran limits l ts ks stack (known B)) ∙ sym (late-from e L ks (known B));
+        kept = body-kept B;
+      }
+
+  -- the same after a child that was refused, by the words of the children before it
+  pub body-child-keys : {ts : Forest} {ks : List (List ℕ)} {τ : List Frame → Config} {i z : ℕ} {tab out : List ℕ} {c : Children} {ψ : List Frame → Outcome} {e number place : ℕ}
+      → c .first ≡ n + 1 → limits .nodes ≤ maxNodes → Body sw limits s kind l ω o d n tin ts ks τ i (c .next) z tab → ValueRefused ψ e (c .next) tab out number place → length out ≡ length tab
+      → Keys sw s kind out c
+  body-child-keys {ts} {ks} {τ} {i} {z} {tab} {out} {c} f h B T long =
+      record {
+        siblings =
+            λ q.
+            record {
+              keys = ks;
+              siblings = subst (λ (x : ℕ). SiblingKeys sw s out x (c .next) ks) (sym f) (siblings-kept sw s tab out (c .next) (T .kept) long (n + 1) ks (B .siblings q));
+            };
+        not-root = omega arith;
+        few = omega (arith, B .below);
+      }
+
+  pub body-child-refused : {ts : Forest} {ks : List (List ℕ)} {i : ℕ} {tab out : List ℕ} {c : Children} {k : TokenKind} {start stop : ℕ} {key : CS.Span} {f r : Refusal} → c .first ≡ n + 1
+      → Within sw limits s kind l ω o d n tin ts ks i (c .next) (c .count) tab → Valued sw s kind tab i (n + 1) (c .next) (turnOf (c .count)) k start stop (key .start) (key .stop)
+      → ValueRefused (openedHere sw limits s start stop true (spanAt (key .start) (key .stop)) (c .next)) (d + 1) (c .next) tab out (f .number) (f .place) → length out ≡ length tab
+      → ChildRefusedLate sw s kind out c key f r → ValueRefused ω d n tin out (r .number) (r .place)
+  body-child-refused {ts} {ks} {i} {tab} {out} {c} {k} {start} {stop} {key} {f} {r} e B I T long L =
       record {
         kept = λ x h. T .kept x (omega (arith, B .grew)) ∙ body-kept B x h;
         ran =
             λ stack h.
             let u : suc (length stack) ≡ d + 1 = omega arith in
-            B .ran stack h ∙ I .ran limits l ts ks stack (known B) ∙ T .ran (frame kind l ts (I .keys ks) ∷ stack) u;
+            B .ran stack h
+            ∙ ap (unlessDuplicate (duplicateIn kind tab (n + 1) ks))
+            (I .ran limits l ts ks stack (known B) ∙ ap (unlessDuplicate (keyDuplicate kind (key .start) ks (I .content))) (T .ran (frame kind l ts (I .keys ks) ∷ stack) u))
+            ∙ ap (λ (q : Option ℕ). unlessDuplicate q (unlessDuplicate (keyDuplicate kind (key .start) ks (I .content)) (refused (f .number) (f .place))))
+            (sym (duplicate-in-kept sw s tab out (c .next) (T .kept) long kind (n + 1) ks (B .siblings)))
+            ∙ sym (child-late-from e L ks (record { siblings = λ q. siblings-kept sw s tab out (c .next) (T .kept) long (n + 1) ks (B .siblings q) }) (I .content) (I .key));
       }
 
-  pub body-after-refused : {ts : Forest} {ks : List (List ℕ)} {i m z : ℕ} {tab : List ℕ} {c q : ℕ}
-      → Body sw limits s kind l ω o d n tin ts ks (λ stack. config (frame kind l ts ks ∷ stack) (inside after) m) i m z tab → FollowsNot sw s kind i c q → ValueRefused ω d n tin tab c q
-  body-after-refused {ts} {ks} {i} {m} B A = record { ran = λ stack h. B .ran stack h ∙ A .ran limits l ts ks stack m; kept = body-kept B }
-
--- the container's row is written
-pub body-read : {rules : Rules} {s : List ℕ} {due : Due} {p : CS.Span} {kind : Kind} {tin : List ℕ} {ts : Forest} {ks : List (List ℕ)} {j m z : ℕ} {tab out : List ℕ} {r : Progress}
-    → SpansApart (due .label)
-    → Body (rules .sw) (rules .limits) s kind (labelOf (due .label)) (openedBy rules s due p (container kind)) (p .start) (due .spot .depth) (due .spot .node) tin ts ks (λ stack. ended stack m (labelOf (due .label) .name) (branch (headBy (labelOf (due .label)) j) kind ts)) j m z tab
-    → r ≡ A.Done j m → out ≡ sets tab (nodeWords * due .spot .node) (rowOf due (branchWords kind z) j m) → ReadAs rules s due p (container kind) tin out r
-unfolding size headOf headBy
-body-read {rules} {s} {due} {p} {kind} {tin} {ts} {ks} {j} {m} {z} {tab} {out} {r} ok B e v =
-    record {
-      is =
-          subst (ProgressIs (rules .sw) (rules .limits) s (openedBy rules s due p (container kind)) (labelOf (due .label)) (p .start) (due .spot .depth) (due .spot .parent) (due .spot .node) tin out)
-          (sym e) done;
-    }
+-- the container's end: its row is written, or a key is a duplicate
+pub body-ended : {rules : Rules} {s : List ℕ} {due : Due} {p : CS.Span} {kind : Kind} {tin : List ℕ} {ts : Forest} {ks : List (List ℕ)} {j : ℕ} {c : Children} {tab out : List ℕ} {r : Progress}
+    → SpansApart (due .label) → c .first ≡ due .spot .node + 1
+    → Body (rules .sw) (rules .limits) s kind (labelOf (due .label)) (openedBy rules s due p (container kind)) (p .start) (due .spot .depth) (due .spot .node) tin ts ks (λ stack. ended stack (c .next) (labelOf (due .label) .name) (branch (headBy (labelOf (due .label)) j) kind ts)) j (c .next) (c .count) tab
+    → BranchEnded (rules .sw) s due kind c j tab out r → ReadAs rules s due p (container kind) tin out r
+unfolding size headOf headBy unlessDuplicate placeOf branchProgress branchTable
+body-ended {rules} {s} {due} {p} {kind} {tin} {ts} {ks} {j} {c} {tab} {out} {r} ok e B E = by (E .found) (E .first-found) (E .answered) (E .wrote)
   where
-    done : ValueRead (rules .sw) (rules .limits) s (openedBy rules s due p (container kind)) (labelOf (due .label)) (p .start) (due .spot .depth) (due .spot .parent) (due .spot .node) tin out j m
-    done =
+    ends : (o : Option ℕ) (stack : List Frame) → Outcome
+    ends o stack =
+        unlessDuplicate o (runFrom (rules .sw) (rules .limits) s j (ended stack (c .next) (labelOf (due .label) .name) (branch (headBy (labelOf (due .label)) j) kind ts)))
+
+    by : (f : Duplicate) → FirstDuplicate (rules .sw) s kind tab c f → r ≡ branchProgress f j (c .next) → out ≡ branchTable f due kind c j tab → ReadAs rules s due p (container kind) tin out r
+    by (D.At place) F q v =
         record {
-          tree = branch (headBy (labelOf (due .label)) j) kind ts;
-          keyed = refl;
-          begun = refl;
-          stopped = refl;
-          grew = omega (arith, B .grew);
-          below = B .below;
-          ahead = B .ahead;
-          inside = B .inside;
-          wrote = rows-branch tin tab out (due .label) ok kind (due .spot .parent) (due .spot .node) m z j ts (B .grew) (B .counted) (B .wrote) v;
-          ran = B .ran;
+          is =
+              subst (ProgressIs (rules .sw) (rules .limits) s (openedBy rules s due p (container kind)) (labelOf (due .label)) (p .start) (due .spot .depth) (due .spot .parent) (due .spot .node) tin out)
+              (sym q)
+              (record {
+                ran = λ stack h. B .ran stack h ∙ ap (λ (o : Option ℕ). ends o stack) (sym (first-from e F ks (known B)));
+                kept = λ x h. ap (λ (u : List ℕ). getD u x 0) v ∙ body-kept B x h;
+              });
+        }
+    by D.Nowhere F q v =
+        record {
+          is =
+              subst (ProgressIs (rules .sw) (rules .limits) s (openedBy rules s due p (container kind)) (labelOf (due .label)) (p .start) (due .spot .depth) (due .spot .parent) (due .spot .node) tin out)
+              (sym q)
+              (record {
+                tree = branch (headBy (labelOf (due .label)) j) kind ts;
+                keyed = refl;
+                begun = refl;
+                stopped = refl;
+                grew = omega (arith, B .grew);
+                below = B .below;
+                ahead = B .ahead;
+                inside = B .inside;
+                wrote = rows-branch tin tab out (due .label) ok kind (due .spot .parent) (due .spot .node) (c .next) (c .count) j ts (B .grew) (B .counted) (B .wrote) v;
+                ran = λ stack h. B .ran stack h ∙ ap (λ (o : Option ℕ). ends o stack) (sym (first-from e F ks (known B)));
+              });
         }
 
 -- ---- the opening
@@ -316,7 +350,7 @@ module _ (sw : Switches) (limits : Limits) (s : List ℕ) (start stop : ℕ) (fr
 
   pub body-start : (tin : List ℕ) → d < limits .depth → (fresh && leb (limits .nodes) n) ≡ false → n < limits .nodes → start < stop → stop ≤ length s → nodeWords * limits .nodes ≤ length tin
       → Within sw limits s kind l (opened sw limits s start stop fresh any l n (container kind)) start d n tin nil [] stop (n + 1) 0 tin
-  unfolding opened valueStep refuseIf afterStep count sizes rowsAll
+  unfolding opened valueStep refuseIf afterStep count sizes rowsAll unlessDuplicate
   body-start tin h f r o i w =
       record {
         counted = refl;
@@ -332,5 +366,5 @@ module _ (sw : Switches) (limits : Limits) (s : List ℕ) (start stop : ℕ) (fr
         ran =
             λ stack e.
             let g : length stack < limits .depth = omega arith in
-            rw (lt-leb (limits .depth) (length stack) g, no-node limits stack (value any none) fresh n, f, count-one limits stack (value any none) fresh n);
+            rw (duplicate-in-none kind tin (n + 1), lt-leb (limits .depth) (length stack) g, no-node limits stack (value any none) fresh n, f, count-one limits stack (value any none) fresh n);
       }

@@ -8,7 +8,7 @@ use mathlib.Core.Option.{Option, none, some}
 use mathlib.Core.List.{List, [], _∷_, _++_}
 use lib.Dec.{eqb}
 use lib.ListN.{length, take, drop}
-use borrow.Author.Tests.{ne-eqb}
+use borrow.Author.Tests.{eq-eqb, ne-eqb}
 use Rattle.text.specs.declared.switches.Switches.{Switches}
 use Rattle.lexer.specs.declared.item.TokenKind.{TokenKind}
 use Rattle.lexer.specs.declared.item.TokenKind.the-variants as K
@@ -24,6 +24,7 @@ use Rattle.text.specs.declared.refusal.Refusal.{Refusal}
 use Rattle.text.specs.Refusal.{refusal}
 use Rattle.reader.specs.declared.tree.Children.{Children}
 use Rattle.text.specs.declared.span.Span as CS
+use Rattle.lexer.specs.declared.item.Token as CT
 use Rattle.reader.specs.declared.items.Ahead.{Ahead}
 use Rattle.reader.specs.declared.items.Ahead.the-variants as H
 use Rattle.reader.specs.declared.items.Only.{Only}
@@ -33,12 +34,22 @@ use Rattle.reader.specs.declared.items.Item.{Item}
 use Rattle.reader.specs.declared.items.Item.the-variants as I
 use Rattle.reader.specs.Tree.{Span, branch, Forest}
 use Rattle.reader.specs.Reading.{maxText}
-use Rattle.reader.specs.Syntax.{Label, Frame, frame, lone, after, more, value, inside, colon, config, go, spanOf, isMark, isObject, closer, keyOf, headBy, ended, refuseIf, holds, keyStep, emptyByComma, childStep, modeStep, step, refused, atEnd}
+use Rattle.reader.specs.Syntax.{Label, Frame, frame, Slot, first, lone, after, more, value, inside, colon, Config, config, Step, go, spanOf, isMark, isObject, closer, keyOf, headBy, ended, refuseIf, holds, keyStep, emptyByComma, childStep, modeStep, step, Outcome, refused, afterStep, atEnd}
 use Rattle.reader.specs.Internal.Tokens.{formAt, tokenAt, TokenAt}
 use Rattle.reader.specs.Internal.Values
-use Rattle.reader.specs.Internal.Ahead.{markIs, closerByte, aheadAt, onlyAt, aheadAfter, keyedItem, followsBy, followsAt}
-use Rattle.reader.specs.Internal.Values.{spanAt, runFrom, openedHere, KeyHere, FoundKey, slotOf, innerAt, Known, Look, Valued, Ends, Refuses, ItemIs, ElementAt}
-use Rattle.reader.proofs.StepRun.{Peeked, Marked, Wants, NotMarked, not-mark, peek-go, peek-refuse, mark-go, is-mark, ahead-token, ahead-refuses, only-at, only-not, past-token, past-refuses, closer-mark, close-step, comma-step, after-step, lone-step, lone-wants, child-step, value-opens, child-opens, item-closes}
+use Rattle.reader.specs.Internal.Ahead.{markIs, closerByte, aheadAt, onlyAt, aheadAfter, followsBy, followsAt}
+use Rattle.reader.specs.Internal.Values.{spanAt, runFrom, openedHere, KeyHere, keyDuplicate, unlessDuplicate, KeyRefused, slotOf, turnOf, innerAt, Look, Valued, Ends, Refuses, ItemIs, ChildAt, ElementAt}
+use Rattle.reader.proofs.StepRun.{Peeked, Marked, Wants, NotMarked, not-mark, peek-run, peek-go, peek-refuse, mark-go, is-mark, ahead-token, ahead-refuses, only-at, only-not, past-token, past-refuses, closer-mark, close-step, comma-step, after-step, lone-step, lone-wants, child-step, value-opens, child-opens, item-closes}
+
+-- where there are no keys, none is a duplicate
+no-duplicate : (kind : Kind) (a : ℕ) (ks : List (List ℕ)) (w : List ℕ) (o : Outcome) → isObject kind ≡ false → o ≡ unlessDuplicate (keyDuplicate kind a ks w) o
+unfolding unlessDuplicate keyDuplicate
+no-duplicate kind a ks w o e = rw e refl
+
+refuse-unless : (b : Bool) (a : ℕ) (d : Config) (f : Config → Outcome) → afterStep a (refuseIf b 8 (go d)) f ≡ unlessDuplicate (cond b (some a) none) (f d)
+unfolding afterStep refuseIf unlessDuplicate
+refuse-unless true a d f = refl
+refuse-unless false a d f = refl
 
 and-first : (a b : Bool) → (a && b) ≡ true → a ≡ true
 and-first true b e = refl
@@ -61,31 +72,39 @@ module _ {sw : Switches} {s : List ℕ} {from want : ℕ} {r : Only} where
   pub mark-refused : {f : Refusal} → from ≤ length s → r ≡ Only.Refused f → r ≡ onlyAt sw s from want → NotMarked sw s from want (f .number) (f .place)
   mark-refused {f} h e q = only-not sw s from want h f (sym q ∙ e)
 
+-- ---- the end, or no token
+
+pub item-last : (sw : Switches) (s : List ℕ) (kind : Kind) (tab : List ℕ) (i x m : ℕ) (slot : Slot) (k : TokenKind) (start stop : ℕ) → Peeked sw s i k start stop → markIs k (closerByte kind) ≡ true
+    → Ends sw s kind tab i x m slot stop
+item-last sw s kind tab i x m slot k start stop p e =
+    let t = p .token in
+    let h = p .ahead in
+    record {
+      ahead = omega arith;
+      inside = t .inside;
+      ran = λ limits l ts ks stack K. item-closes sw limits s i k start stop p kind l ts ks stack m slot (is-mark sw s k start stop t (closer kind) true e);
+    }
+
+pub item-none : (sw : Switches) (s : List ℕ) (kind : Kind) (tab : List ℕ) (i x m : ℕ) (slot : Slot) (f : Refusal) → aheadAt sw s i ≡ H.Refused f
+    → Refuses sw s kind tab i x m slot (f .number) (f .place)
+unfolding atEnd
+item-none sw s kind tab i x m slot f e = record { ran = λ limits l ts ks stack K. ahead-refuses sw s i f e limits (innerAt kind l ts ks stack m slot) (λ place. refl) }
+
 -- ---- arrays and tuples
 
 module _ (sw : Switches) (s : List ℕ) (kind : Kind) (tab : List ℕ) (i x m z : ℕ) (k : TokenKind) (start stop : ℕ) (p : Peeked sw s i k start stop) where
-  pub item-last : markIs k (closerByte kind) ≡ true → Ends sw s kind tab i x m z stop
-  item-last e =
-      let t = p .token in
-      let h = p .ahead in
-      record {
-        ahead = omega arith;
-        inside = t .inside;
-        ran = λ limits l ts ks stack K. item-closes sw limits s i k start stop p kind l ts ks stack m (slotOf z) (is-mark sw s k start stop t (closer kind) true e);
-      }
-
   lone-run : markIs k (closerByte kind) ≡ false → (eqb z 0 && (markIs k 44 && emptyByComma sw kind)) ≡ true
       → (limits : Limits) (l : Label) (ts : Forest) (ks : List (List ℕ)) (stack : List Frame)
-      → runFrom sw limits s i (innerAt kind l ts ks stack m z) ≡ runFrom sw limits s stop (config (frame kind l ts ks ∷ stack) (inside lone) m)
+      → runFrom sw limits s i (innerAt kind l ts ks stack m (slotOf z)) ≡ runFrom sw limits s stop (config (frame kind l ts ks ∷ stack) (inside lone) m)
   lone-run e f limits l ts ks stack =
-      peek-go sw limits s i (innerAt kind l ts ks stack m z) k start stop (config (frame kind l ts ks ∷ stack) (inside lone) m) p
+      peek-go sw limits s i (innerAt kind l ts ks stack m (slotOf z)) k start stop (config (frame kind l ts ks ∷ stack) (inside lone) m) p
       (lone-step sw limits kind l ts ks stack m (tokenAt sw s start stop) z (is-mark sw s k start stop (p .token) (closer kind) false e)
       (is-mark sw s k start stop (p .token) "," true (and-first (markIs k 44) (emptyByComma sw kind) (and-second (eqb z 0) (markIs k 44 && emptyByComma sw kind) f)))
       (and-second (markIs k 44) (emptyByComma sw kind) (and-second (eqb z 0) (markIs k 44 && emptyByComma sw kind) f))
       (and-first (eqb z 0) (markIs k 44 && emptyByComma sw kind) f))
 
   pub item-lone : markIs k (closerByte kind) ≡ false → (eqb z 0 && (markIs k 44 && emptyByComma sw kind)) ≡ true → (j : ℕ) → Marked sw s stop (closerByte kind) j
-      → Ends sw s kind tab i x m z j
+      → Ends sw s kind tab i x m (slotOf z) j
   item-lone e f j q =
       let t = p .token in
       let h = p .ahead in
@@ -100,7 +119,7 @@ module _ (sw : Switches) (s : List ℕ) (kind : Kind) (tab : List ℕ) (i x m z 
       }
 
   pub item-lone-not : markIs k (closerByte kind) ≡ false → (eqb z 0 && (markIs k 44 && emptyByComma sw kind)) ≡ true → (number place : ℕ)
-      → NotMarked sw s stop (closerByte kind) number place → Refuses sw s kind tab i x m z number place
+      → NotMarked sw s stop (closerByte kind) number place → Refuses sw s kind tab i x m (slotOf z) number place
   item-lone-not e f number place q =
       record {
         ran =
@@ -110,7 +129,7 @@ module _ (sw : Switches) (s : List ℕ) (kind : Kind) (tab : List ℕ) (i x m z 
       }
 
   pub item-value : isObject kind ≡ false → markIs k (closerByte kind) ≡ false → (eqb z 0 && (markIs k 44 && emptyByComma sw kind)) ≡ false
-      → Valued sw s kind tab i x m z k start stop 0 0
+      → Valued sw s kind tab i x m (slotOf z) k start stop 0 0
   unfolding spanAt
   item-value o e f =
       record {
@@ -125,15 +144,9 @@ module _ (sw : Switches) (s : List ℕ) (kind : Kind) (tab : List ℕ) (i x m z 
         ran =
             λ limits l ts ks stack K.
             child-opens sw limits s i k start stop p kind l ts ks stack m z o (is-mark sw s k start stop (p .token) (closer kind) false e)
-            (ap (λ (b : Bool). eqb z 0 && (b && emptyByComma sw kind)) (is-mark sw s k start stop (p .token) "," (markIs k 44) refl) ∙ f);
+            (ap (λ (b : Bool). eqb z 0 && (b && emptyByComma sw kind)) (is-mark sw s k start stop (p .token) "," (markIs k 44) refl) ∙ f)
+            ∙ no-duplicate kind 0 ks [] _ o;
       }
-
--- ---- no token where a child is due
-
-pub item-none : (sw : Switches) (s : List ℕ) (kind : Kind) (tab : List ℕ) (i x m z : ℕ) (f : Refusal) → aheadAt sw s i ≡ H.Refused f
-    → Refuses sw s kind tab i x m z (f .number) (f .place)
-unfolding atEnd
-item-none sw s kind tab i x m z f e = record { ran = λ limits l ts ks stack K. ahead-refuses sw s i f e limits (innerAt kind l ts ks stack m z) (λ place. refl) }
 
 -- ---- after a child
 
@@ -142,38 +155,16 @@ pub record Follows (sw : Switches) (s : List ℕ) (kind : Kind) (i j : ℕ) : Ty
   pub ahead : i < j
   pub within : j ≤ length s
   pub ran : (limits : Limits) (l : Label) (ts : Forest) (ks : List (List ℕ)) (stack : List Frame) (m : ℕ)
-      → runFrom sw limits s i (config (frame kind l ts ks ∷ stack) (inside after) m) ≡ runFrom sw limits s j (config (frame kind l ts ks ∷ stack) (inside more) m)
+      → runFrom sw limits s i (innerAt kind l ts ks stack m after) ≡ runFrom sw limits s j (innerAt kind l ts ks stack m more)
 
--- the end of the container
-pub record Closes (sw : Switches) (s : List ℕ) (kind : Kind) (i j : ℕ) : Type 0 where
-  pub ahead : i < j
-  pub within : j ≤ length s
-  pub ran : (limits : Limits) (l : Label) (ts : Forest) (ks : List (List ℕ)) (stack : List Frame) (m : ℕ)
-      → runFrom sw limits s i (config (frame kind l ts ks ∷ stack) (inside after) m) ≡ runFrom sw limits s j (ended stack m (l .name) (branch (headBy l j) kind ts))
+-- a comma, the end or a refusal, by the code's answer
+abbrev pub NextIs : Switches → List ℕ → Kind → List ℕ → (i x m : ℕ) → After → Type 0
+NextIs sw s kind tab i x m (X.More j) = Follows sw s kind i j
+NextIs sw s kind tab i x m (X.Over j) = Ends sw s kind tab i x m after j
+NextIs sw s kind tab i x m (X.Refused f) = Refuses sw s kind tab i x m after (f .number) (f .place)
 
--- a refusal
-pub record FollowsNot (sw : Switches) (s : List ℕ) (kind : Kind) (i number place : ℕ) : Type 0 where
-  pub ran : (limits : Limits) (l : Label) (ts : Forest) (ks : List (List ℕ)) (stack : List Frame) (m : ℕ)
-      → runFrom sw limits s i (config (frame kind l ts ks ∷ stack) (inside after) m) ≡ refused number place
-
--- one of them, by the code's answer
-abbrev pub NextIs : Switches → List ℕ → Kind → (i : ℕ) → After → Type 0
-NextIs sw s kind i (X.More j) = Follows sw s kind i j
-NextIs sw s kind i (X.Over j) = Closes sw s kind i j
-NextIs sw s kind i (X.Refused f) = FollowsNot sw s kind i (f .number) (f .place)
-
-module _ (sw : Switches) (s : List ℕ) (kind : Kind) (i : ℕ) where
+module _ (sw : Switches) (s : List ℕ) (kind : Kind) (tab : List ℕ) (i x m : ℕ) where
   module _ (k : TokenKind) (start stop : ℕ) (p : Peeked sw s i k start stop) where
-    after-closes : markIs k (closerByte kind) ≡ true → Closes sw s kind i stop
-    after-closes e =
-        let t = p .token in
-        let h = p .ahead in
-        record {
-          ahead = omega arith;
-          within = t .inside;
-          ran = λ limits l ts ks stack m. item-closes sw limits s i k start stop p kind l ts ks stack m after (is-mark sw s k start stop t (closer kind) true e);
-        }
-
     after-comma : markIs k (closerByte kind) ≡ false → markIs k 44 ≡ true → Follows sw s kind i stop
     after-comma e f =
         let t = p .token in
@@ -183,37 +174,73 @@ module _ (sw : Switches) (s : List ℕ) (kind : Kind) (i : ℕ) where
           within = t .inside;
           ran =
               λ limits l ts ks stack m.
-              peek-go sw limits s i (config (frame kind l ts ks ∷ stack) (inside after) m) k start stop (config (frame kind l ts ks ∷ stack) (inside more) m) p
+              peek-go sw limits s i (innerAt kind l ts ks stack m after) k start stop (innerAt kind l ts ks stack m more) p
               (comma-step sw limits kind l ts ks stack m (tokenAt sw s start stop) (is-mark sw s k start stop t (closer kind) false e) (is-mark sw s k start stop t "," true f));
         }
 
-    after-other : markIs k (closerByte kind) ≡ false → markIs k 44 ≡ false → FollowsNot sw s kind i 7 start
+    after-other : markIs k (closerByte kind) ≡ false → markIs k 44 ≡ false → Refuses sw s kind tab i x m after 7 start
     after-other e f =
         record {
           ran =
-              λ limits l ts ks stack m.
-              peek-refuse sw limits s i (config (frame kind l ts ks ∷ stack) (inside after) m) k start stop 7 p
+              λ limits l ts ks stack K.
+              peek-refuse sw limits s i (innerAt kind l ts ks stack m after) k start stop 7 p
               (after-step sw limits kind l ts ks stack m (tokenAt sw s start stop) (is-mark sw s k start stop (p .token) (closer kind) false e) (is-mark sw s k start stop (p .token) "," false f));
         }
 
-  after-none : (f : Refusal) → aheadAt sw s i ≡ H.Refused f → FollowsNot sw s kind i (f .number) (f .place)
-  unfolding atEnd
-  after-none f e = record { ran = λ limits l ts ks stack m. ahead-refuses sw s i f e limits (config (frame kind l ts ks ∷ stack) (inside after) m) (λ place. refl) }
-
-  next-by : i ≤ length s → (a : Ahead) → aheadAt sw s i ≡ a → NextIs sw s kind i (followsBy kind a)
+  next-by : i ≤ length s → (a : Ahead) → aheadAt sw s i ≡ a → NextIs sw s kind tab i x m (followsBy kind a)
   unfolding followsBy
   next-by h (H.Token t) q = by (markIs (t .kind) (closerByte kind)) (markIs (t .kind) 44) refl refl
     where
       by : (b c : Bool) → markIs (t .kind) (closerByte kind) ≡ b → markIs (t .kind) 44 ≡ c
-          → NextIs sw s kind i (cond b (X.Over (t .span .stop)) (cond c (X.More (t .span .stop)) (X.Refused (refusal 7 (t .span .start)))))
-      by true c e f = after-closes (t .kind) (t .span .start) (t .span .stop) (ahead-token sw s i t h q) e
+          → NextIs sw s kind tab i x m (cond b (X.Over (t .span .stop)) (cond c (X.More (t .span .stop)) (X.Refused (refusal 7 (t .span .start)))))
+      by true c e f = item-last sw s kind tab i x m after (t .kind) (t .span .start) (t .span .stop) (ahead-token sw s i t h q) e
       by false true e f = after-comma (t .kind) (t .span .start) (t .span .stop) (ahead-token sw s i t h q) e f
       by false false e f = after-other (t .kind) (t .span .start) (t .span .stop) (ahead-token sw s i t h q) e f
-  next-by h (H.Refused f) q = after-none f q
+  next-by h (H.Refused f) q = item-none sw s kind tab i x m after f q
 
   -- what `after_item` has answered
-  pub next-is : {r : After} → i ≤ length s → r ≡ followsAt sw s kind i → (q : After) → r ≡ q → NextIs sw s kind i q
-  next-is {r} h e q p = subst (NextIs sw s kind i) (sym e ∙ p) (next-by h (aheadAt sw s i) refl)
+  pub next-is : {r : After} → i ≤ length s → r ≡ followsAt sw s kind i → (q : After) → r ≡ q → NextIs sw s kind tab i x m q
+  next-is {r} h e q p = subst (NextIs sw s kind tab i x m) (sym e ∙ p) (next-by h (aheadAt sw s i) refl)
+
+-- ---- the next child, after the last one if there is one
+
+-- what comes after the comma
+past-comma : (sw : Switches) (s : List ℕ) (kind : Kind) (tab : List ℕ) (i j x m : ℕ) (r : Item) → Follows sw s kind i j → ItemIs sw s kind tab j x m more r → ItemIs sw s kind tab i x m after r
+past-comma sw s kind tab i j x m (I.Value t key) F W =
+    record {
+      token = W .token;
+      ahead = omega (arith, F .ahead, W .ahead);
+      apart = W .apart;
+      short = W .short;
+      content = W .content;
+      key = W .key;
+      keys = W .keys;
+      added = W .added;
+      ran = λ limits l ts ks stack K. F .ran limits l ts ks stack m ∙ W .ran limits l ts ks stack K;
+    }
+past-comma sw s kind tab i j x m (I.Last e) F E =
+    record {
+      ahead = omega (arith, F .ahead, E .ahead);
+      inside = E .inside;
+      ran = λ limits l ts ks stack K. F .ran limits l ts ks stack m ∙ E .ran limits l ts ks stack K;
+    }
+past-comma sw s kind tab i j x m (I.Refused f) F R = record { ran = λ limits l ts ks stack K. F .ran limits l ts ks stack m ∙ R .ran limits l ts ks stack K }
+
+module _ (sw : Switches) (s : List ℕ) (kind : Kind) (tab : List ℕ) (c : Children) (i : ℕ) (r : Item) where
+  slot-as : (p q : Slot) → p ≡ q → ItemIs sw s kind tab i (c .first) (c .next) p r → ItemIs sw s kind tab i (c .first) (c .next) q r
+  slot-as p q e h = subst (λ (slot : Slot). ItemIs sw s kind tab i (c .first) (c .next) slot r) e h
+
+  pub child-first : c .count ≡ 0 → Values.ItemAt sw s kind tab c i r → ChildAt sw s kind tab c i r
+  child-first e h = record { is = slot-as (slotOf (c .count)) (turnOf (c .count)) (rw (eq-eqb (c .count) 0 e)) (h .is) }
+
+  pub child-after : (c .count ≡ 0 → ⊥) → ItemIs sw s kind tab i (c .first) (c .next) after r → ChildAt sw s kind tab c i r
+  child-after n h = record { is = slot-as after (turnOf (c .count)) (rw (ne-eqb (c .count) 0 n)) h }
+
+pub child-more : {sw : Switches} {s : List ℕ} {kind : Kind} {tab : List ℕ} {c : Children} {i j : ℕ} {r : Item} → (c .count ≡ 0 → ⊥) → Follows sw s kind i j → Values.ItemAt sw s kind tab c j r
+    → ChildAt sw s kind tab c i r
+child-more {sw} {s} {kind} {tab} {c} {i} {j} {r} n F h =
+    child-after sw s kind tab c i r n
+    (past-comma sw s kind tab i j (c .first) (c .next) r F (slot-as sw s kind tab c j r (slotOf (c .count)) more (rw (ne-eqb (c .count) 0 n)) (h .is)))
 
 -- the reader of an item by the kind of its container
 pub look-as : {sw : Switches} {s : List ℕ} {kind : Kind} {tab : List ℕ} {c : Children} {from : ℕ} (other : Kind) → kind ≡ other → Look sw s kind tab c from → Look sw s other tab c from
@@ -236,13 +263,12 @@ unfolding spanAt
 span-some a e h = let n : e ≡ 0 → ⊥ = λ q. omega arith in rw (ne-eqb e 0 n)
 
 -- after the key from `start` to `stop`: its colon and its value's first token
-abbrev pub AfterKeyIs : Switches → List ℕ → (start stop : ℕ) → Item → Type 0
-AfterKeyIs sw s start stop (I.Value t key) =
-    (key .start ≡ start) × (key .stop ≡ stop) × (stop ≤ t .span .start) × TokenAt sw s (t .kind) (t .span .start) (t .span .stop)
+abbrev pub AfterKeyIs : Switches → List ℕ → (start stop : ℕ) → Ahead → Type 0
+AfterKeyIs sw s start stop (H.Token t) =
+    (stop ≤ t .span .start) × TokenAt sw s (t .kind) (t .span .start) (t .span .stop)
     × ((limits : Limits) (stack : List Frame) (m : ℕ)
     → runFrom sw limits s stop (config stack (colon (record { start = start; stop = stop })) m) ≡ openedHere sw limits s (t .span .start) (t .span .stop) true (some (record { start = start; stop = stop })) m stack)
-AfterKeyIs sw s start stop (I.Last j) = ⊥
-AfterKeyIs sw s start stop (I.Refused f) =
+AfterKeyIs sw s start stop (H.Refused f) =
     (limits : Limits) (stack : List Frame) (m : ℕ) → runFrom sw limits s stop (config stack (colon (record { start = start; stop = stop })) m) ≡ refused (f .number) (f .place)
 
 module _ (sw : Switches) (s : List ℕ) (key : CS.Span) where
@@ -258,15 +284,13 @@ module _ (sw : Switches) (s : List ℕ) (key : CS.Span) where
   unfolding step modeStep isMark
   colon-goes limits stack m start stop = refl
 
-  after-by : key .stop ≤ length s → (a : Ahead) → aheadAfter sw s (key .stop) 58 ≡ a → AfterKeyIs sw s (key .start) (key .stop) (keyedItem key a)
-  unfolding keyedItem colon-at atEnd
+  after-by : key .stop ≤ length s → (a : Ahead) → aheadAfter sw s (key .stop) 58 ≡ a → AfterKeyIs sw s (key .start) (key .stop) a
+  unfolding colon-at atEnd
   after-by h (H.Token t) e =
       let p = past-token sw s (key .stop) 58 h t e in
       let a = p .mark .ahead in
       let b = p .mark .some in
       let d = p .token .ahead in (
-        refl,
-        refl,
         omega arith,
         p .token .token,
         λ limits stack m.
@@ -279,9 +303,9 @@ module _ (sw : Switches) (s : List ℕ) (key : CS.Span) where
       past-refuses sw s (key .stop) 58 h f e limits (config stack (colon colon-at) m) (config stack (value true (some colon-at)) m) (colon-wants limits stack m)
       (colon-goes limits stack m) (λ place. refl)
 
-  -- what `after_key` has answered
-  pub after-is : key .stop ≤ length s → (r : Item) → r ≡ keyedItem key (aheadAfter sw s (key .stop) 58) → AfterKeyIs sw s (key .start) (key .stop) r
-  after-is h r e = subst (AfterKeyIs sw s (key .start) (key .stop)) (sym e) (after-by h (aheadAfter sw s (key .stop) 58) refl)
+  -- what `token_after` has answered
+  pub after-is : {r : Ahead} → key .stop ≤ length s → r ≡ aheadAfter sw s (key .stop) 58 → (a : Ahead) → r ≡ a → AfterKeyIs sw s (key .start) (key .stop) a
+  after-is {r} h e a q = after-by h a (sym e ∙ q)
 
 -- a key's content, by the machine and by its bytes alone
 pub key-content : (f : Form) → isKey (kindOf f) ≡ true → (w : List ℕ) × ((keyOf f ≡ some w) × (keyContent f ≡ some w))
@@ -330,20 +354,20 @@ module _ (sw : Switches) (s : List ℕ) (k : TokenKind) (start stop : ℕ) (t : 
 module _ (sw : Switches) (s tab : List ℕ) (i x m : ℕ) (k : TokenKind) (start stop : ℕ) (p : Peeked sw s i k start stop) (e : markIs k 125 ≡ false) where
   -- in an object, a token that is no closing bracket stands where a key is due
   field-step : (limits : Limits) (l : Label) (ts : Forest) (ks : List (List ℕ)) (stack : List Frame) (z : ℕ) (o : Option (List ℕ)) → keyOf (formAt sw s start) ≡ o
-      → step sw limits (innerAt Object l ts ks stack m z) (tokenAt sw s start stop) ≡ keyStep (frame Object l ts ks) stack m (record { start = start; stop = stop }) o
+      → step sw limits (innerAt Object l ts ks stack m (slotOf z)) (tokenAt sw s start stop) ≡ keyStep (frame Object l ts ks) stack m (record { start = start; stop = stop }) o
   unfolding childStep spanOf emptyByComma
   field-step limits l ts ks stack z o q =
       child-step sw limits Object l ts ks stack m (tokenAt sw s start stop) z (is-mark sw s k start stop (p .token) "}" false e)
       (ap (λ (b : Bool). eqb z 0 && b) (and-false (isMark "," (formAt sw s start))) ∙ and-false (eqb z 0))
       ∙ ap (keyStep (frame Object l ts ks) stack m (record { start = start; stop = stop })) q
 
-  pub field-not : isKey k ≡ false → (z : ℕ) → Refuses sw s Object tab i x m z 7 start
+  pub field-not : isKey k ≡ false → (z : ℕ) → Refuses sw s Object tab i x m (slotOf z) 7 start
   unfolding keyStep
   field-not f z =
       record {
         ran =
             λ limits l ts ks stack K.
-            peek-refuse sw limits s i (innerAt Object l ts ks stack m z) k start stop 7 p
+            peek-refuse sw limits s i (innerAt Object l ts ks stack m (slotOf z)) k start stop 7 p
             (field-step limits l ts ks stack z none (no-key (formAt sw s start) (ap isKey (p .token .kind) ∙ f)));
       }
 
@@ -351,54 +375,50 @@ module _ (sw : Switches) (s tab : List ℕ) (i x m : ℕ) (k : TokenKind) (start
     unfoldable w : List ℕ
     w = key-here sw s k start stop (p .token) y .content
 
-    pub field-twice : FoundKey sw s tab x m start stop true → (z : ℕ) → Refuses sw s Object tab i x m z 8 start
-    unfolding keyStep refuseIf w
-    field-twice F z =
-        record {
-          ran =
-              λ limits l ts ks stack K.
-              peek-refuse sw limits s i (innerAt Object l ts ks stack m z) k start stop 8 p
-              (field-step limits l ts ks stack z (some w) (key-of sw s k start stop (p .token) y)
-              ∙ ap (λ (b : Bool). refuseIf b 8 (go (config (frame Object l ts (ks ++ (w ∷ [])) ∷ stack) (colon (record { start = start; stop = stop })) m)))
-              (sym (F .is w (key-here sw s k start stop (p .token) y .key) ks (K .siblings refl))));
-        }
+    -- the run goes on after the key, unless it is among those before it
+    new-run : (limits : Limits) (l : Label) (ts : Forest) (ks : List (List ℕ)) (stack : List Frame) (z : ℕ)
+        → runFrom sw limits s i (innerAt Object l ts ks stack m (slotOf z))
+        ≡ unlessDuplicate (keyDuplicate Object start ks w) (runFrom sw limits s stop (config (frame Object l ts (ks ++ (w ∷ [])) ∷ stack) (colon (record { start = start; stop = stop })) m))
+    unfolding keyStep keyDuplicate w
+    new-run limits l ts ks stack z =
+        peek-run sw limits s i (innerAt Object l ts ks stack m (slotOf z)) k start stop p
+        ∙ ap (λ (q : Step). afterStep start q (λ g. runFrom sw limits s stop g)) (field-step limits l ts ks stack z (some w) (key-of sw s k start stop (p .token) y))
+        ∙ refuse-unless (holds ks w) start (config (frame Object l ts (ks ++ (w ∷ [])) ∷ stack) (colon (record { start = start; stop = stop })) m) (λ g. runFrom sw limits s stop g)
 
-    new-run : FoundKey sw s tab x m start stop false → (limits : Limits) (l : Label) (ts : Forest) (ks : List (List ℕ)) (stack : List Frame) (z : ℕ) → Known sw s Object tab x m ks
-        → runFrom sw limits s i (innerAt Object l ts ks stack m z)
-        ≡ runFrom sw limits s stop (config (frame Object l ts (ks ++ (w ∷ [])) ∷ stack) (colon (record { start = start; stop = stop })) m)
-    unfolding keyStep refuseIf w
-    new-run F limits l ts ks stack z K =
-        peek-go sw limits s i (innerAt Object l ts ks stack m z) k start stop (config (frame Object l ts (ks ++ (w ∷ [])) ∷ stack) (colon (record { start = start; stop = stop })) m) p
-        (field-step limits l ts ks stack z (some w) (key-of sw s k start stop (p .token) y)
-        ∙ ap (λ (b : Bool). refuseIf b 8 (go (config (frame Object l ts (ks ++ (w ∷ [])) ∷ stack) (colon (record { start = start; stop = stop })) m)))
-        (sym (F .is w (key-here sw s k start stop (p .token) y .key) ks (K .siblings refl))))
-
-    -- what stands after the key is what stands where the child is due
-    pub field-key : length s ≤ maxText → FoundKey sw s tab x m start stop false → (z : ℕ) (r : Item) → AfterKeyIs sw s start stop r → ItemIs sw s Object tab i x m z r
+    -- the value's first token comes after the key
+    pub field-value : length s ≤ maxText → (z : ℕ) (u : CT.Token) → AfterKeyIs sw s start stop (H.Token u) → Valued sw s Object tab i x m (slotOf z) (u .kind) (u .span .start) (u .span .stop) start stop
     unfolding w key-here
-    field-key short F z (I.Value u key) A =
+    field-value short z u A =
         let t = p .token in
         let h = p .ahead in
         let o = t .ordered in
         let n = t .inside in
-        let c-is = A .0 in
-        let d-is = A .1 in
-        let g = A .2 in
+        let g = A .0 in
         record {
-          token = A .3;
+          token = A .1;
           ahead = omega arith;
           apart = λ q. let z0 : ⊥ = omega arith in absurd z0;
           short = (omega arith, omega arith);
           content = w;
-          key = λ _. rw (c-is, d-is) (key-here sw s k start stop t y .key);
+          key = λ _. key-here sw s k start stop t y .key;
           keys = λ ks. ks ++ (w ∷ []);
           added = λ _ ks. refl;
           ran =
               λ limits l ts ks stack K.
-              new-run F limits l ts ks stack z K ∙ A .4 limits (frame Object l ts (ks ++ (w ∷ [])) ∷ stack) m
-              ∙ ap (λ (q : Option Span). openedHere sw limits s (u .span .start) (u .span .stop) true q m (frame Object l ts (ks ++ (w ∷ [])) ∷ stack))
-              (sym (span-some start stop o) ∙ (λ q. spanAt (sym c-is q) (sym d-is q)));
+              new-run limits l ts ks stack z
+              ∙ ap (unlessDuplicate (keyDuplicate Object start ks w))
+              (A .2 limits (frame Object l ts (ks ++ (w ∷ [])) ∷ stack) m
+              ∙ ap (λ (q : Option Span). openedHere sw limits s (u .span .start) (u .span .stop) true q m (frame Object l ts (ks ++ (w ∷ [])) ∷ stack)) (sym (span-some start stop o)));
         }
-    field-key short F z (I.Last j) A = absurd A
-    field-key short F z (I.Refused f) A =
-        record { ran = λ limits l ts ks stack K. new-run F limits l ts ks stack z K ∙ A limits (frame Object l ts (ks ++ (w ∷ [])) ∷ stack) m }
+
+    -- what follows the key is refused
+    pub field-refused : (z : ℕ) (f r : Refusal) → AfterKeyIs sw s start stop (H.Refused f) → KeyRefused sw s tab x m start stop f r → Refuses sw s Object tab i x m (slotOf z) (r .number) (r .place)
+    unfolding w
+    field-refused z f r A F =
+        record {
+          ran =
+              λ limits l ts ks stack K.
+              new-run limits l ts ks stack z
+              ∙ ap (unlessDuplicate (keyDuplicate Object start ks w)) (A limits (frame Object l ts (ks ++ (w ∷ [])) ∷ stack) m)
+              ∙ sym (F .is w (key-here sw s k start stop (p .token) y .key) ks (K .siblings refl));
+        }

@@ -24,10 +24,10 @@ some-is : {a b : List ℕ} → some a ≡ some b → a ≡ b
 some-is e = cc
 
 -- a span has one content
-key-unique : (sw : Switches) (s : List ℕ) (a e : ℕ) (v w : List ℕ) → KeyAt sw s a e v → KeyAt sw s a e w → v ≡ w
+pub key-unique : (sw : Switches) (s : List ℕ) (a e : ℕ) (v w : List ℕ) → KeyAt sw s a e v → KeyAt sw s a e w → v ≡ w
 key-unique sw s a e v w p q = some-is (sym (p .holds) ∙ q .holds)
 
-chain-unique : (sw : Switches) (s tab : List ℕ) (x m : ℕ) (ks js : List (List ℕ)) → SiblingKeys sw s tab x m ks → SiblingKeys sw s tab x m js → ks ≡ js
+pub chain-unique : (sw : Switches) (s tab : List ℕ) (x m : ℕ) (ks js : List (List ℕ)) → SiblingKeys sw s tab x m ks → SiblingKeys sw s tab x m js → ks ≡ js
 chain-unique sw s tab x m [] [] C D = refl
 chain-unique sw s tab x m [] (v ∷ js) C D = let L = D .0 in let z : ⊥ = omega arith in absurd z
 chain-unique sw s tab x m (w ∷ ks) [] C D = let L = C .0 in let z : ⊥ = omega arith in absurd z

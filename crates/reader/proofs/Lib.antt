@@ -25,6 +25,11 @@ pub mod BeginLaws
 pub mod StepRun
 pub mod ItemRun
 pub mod KeyWalk
+pub mod DuplicateLaws
+pub mod PrefixLaws
+pub mod IndexLaws
+pub mod IndexRun
+pub mod FewRun
 pub mod RowLaws
 pub mod BodyRun
 pub mod ValueRun

@@ -302,7 +302,7 @@ module _ (sw : Switches) (limits : Limits) (kind : Kind) (l : Label) (ts : Fores
 
   -- `[,`
   pub lone-step : (t : Token) (z : ℕ) → isMark (closer kind) (t .form) ≡ false → isMark "," (t .form) ≡ true → emptyByComma sw kind ≡ true → eqb z 0 ≡ true
-      → step sw limits (innerAt kind l ts ks stack m z) t ≡ go (config (frame kind l ts ks ∷ stack) (inside lone) m)
+      → step sw limits (innerAt kind l ts ks stack m (slotOf z)) t ≡ go (config (frame kind l ts ks ∷ stack) (inside lone) m)
   unfolding step modeStep slotStep closeOr
   lone-step t z e f g h = rw (h, e, f, g)
 
@@ -316,7 +316,7 @@ module _ (sw : Switches) (limits : Limits) (kind : Kind) (l : Label) (ts : Fores
 
   -- a child is due
   pub child-step : (t : Token) (z : ℕ) → isMark (closer kind) (t .form) ≡ false → (eqb z 0 && (isMark "," (t .form) && emptyByComma sw kind)) ≡ false
-      → step sw limits (innerAt kind l ts ks stack m z) t ≡ childStep limits (innerAt kind l ts ks stack m z) (frame kind l ts ks) stack t
+      → step sw limits (innerAt kind l ts ks stack m (slotOf z)) t ≡ childStep limits (innerAt kind l ts ks stack m (slotOf z)) (frame kind l ts ks) stack t
   unfolding step modeStep slotStep closeOr
   child-step t z e f = pick (eqb z 0) f
     where
@@ -348,13 +348,13 @@ module _ (sw : Switches) (limits : Limits) (s : List ℕ) (from : ℕ) (k : Toke
   -- a child of an array or a tuple
   pub child-opens : (kind : Kind) (l : Label) (ts : Forest) (ks : List (List ℕ)) (stack : List Frame) (m z : ℕ) → isObject kind ≡ false
       → isMark (closer kind) (formAt sw s start) ≡ false → (eqb z 0 && (isMark "," (formAt sw s start) && emptyByComma sw kind)) ≡ false
-      → runFrom sw limits s from (innerAt kind l ts ks stack m z) ≡ openedHere sw limits s start stop true none m (frame kind l ts ks ∷ stack)
+      → runFrom sw limits s from (innerAt kind l ts ks stack m (slotOf z)) ≡ openedHere sw limits s start stop true none m (frame kind l ts ks ∷ stack)
   unfolding childStep freshValue opened
   child-opens kind l ts ks stack m z o e f =
-      peek-run sw limits s from (innerAt kind l ts ks stack m z) k start stop p
+      peek-run sw limits s from (innerAt kind l ts ks stack m (slotOf z)) k start stop p
       ∙ ap (λ (x : Step). afterStep start x (λ d. runFrom sw limits s stop d))
       (child-step sw limits kind l ts ks stack m (tokenAt sw s start stop) z e f
-      ∙ ap (λ (b : Bool). cond b (keyStep (frame kind l ts ks) stack m (spanOf (tokenAt sw s start stop)) (keyOf (formAt sw s start))) (freshValue limits (innerAt kind l ts ks stack m z) true none (tokenAt sw s start stop))) o
+      ∙ ap (λ (b : Bool). cond b (keyStep (frame kind l ts ks) stack m (spanOf (tokenAt sw s start stop)) (keyOf (formAt sw s start))) (freshValue limits (innerAt kind l ts ks stack m (slotOf z)) true none (tokenAt sw s start stop))) o
       ∙ mode-free limits (frame kind l ts ks ∷ stack) (inside (slotOf z)) (value true none) m true true (label start none none) (tokenAt sw s start stop) (begins (spanOf (tokenAt sw s start stop)) (formAt sw s start)))
 
   -- the end of a container

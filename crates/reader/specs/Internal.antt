@@ -3,4 +3,6 @@
 pub mod Tokens
 pub mod Ahead
 pub mod Values
+pub mod Index
+pub mod Few
 pub mod Whole

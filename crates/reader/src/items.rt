@@ -9,13 +9,12 @@ ghost use Rattle.reader.specs.Internal.Ahead.{
   aheadAt,
   onlyAt,
   aheadAfter,
-  keyedItem,
   followsAt,
   markIs,
   closerByte,
 };
-ghost use Rattle.reader.specs.Internal.Values.{Look, ItemAt, ElementAt};
-use super::keys::find_key;
+ghost use Rattle.reader.specs.Internal.Values.{Look, ItemAt, ChildAt, ElementAt};
+use super::keys::key_refusal;
 use super::tree::Children;
 use super::tree::Kind;
 use lexer::item::Next;
@@ -23,7 +22,6 @@ use lexer::item::Token;
 use lexer::item::TokenKind;
 use lexer::item::next_token;
 use lexer::token::is_key;
-use text::refusal::DUPLICATE_KEY;
 use text::refusal::Refusal;
 use text::refusal::UNEXPECTED;
 use text::span::Span;
@@ -181,17 +179,8 @@ fn next_element(sw: Switches, text: &[u8], kind: Kind, count: usize, from: usize
     }
 }
 
-// After a key: its colon, and its value's first token.
-fn after_key(sw: Switches, text: &[u8], key: Span) -> Item
-    ensures { λ r. ⌜ r ≡ keyedItem key (aheadAfter sw (now (text .entry)) (key .stop) 58) ⌝ }
-{
-    match token_after(sw, text, key.stop, b':') {
-        Ahead::Token(token) => Item::Value { token, key },
-        Ahead::Refused(refusal) => Item::Refused(refusal),
-    }
-}
-
-// A key with its value's first token, or the end, of an object with these children.
+// A key with its value's first token, or the end, of an object with these children. Whether the key is one of theirs is asked here only
+// where what follows it is refused; else where the object ends, of all its keys at once.
 fn next_field(sw: Switches, text: &[u8], table: &[u32], children: Children, from: usize) -> Item
     requires { ⌜ Look sw (now text) Kind.Object (now table) children from ⌝ }
     ensures { λ r. ⌜ ItemAt sw (now (text .entry)) Kind.Object (now (table .entry)) children from r ⌝ }
@@ -204,13 +193,13 @@ fn next_field(sw: Switches, text: &[u8], table: &[u32], children: Children, from
             let place = token.span.start;
             if is_key(token) {
                 let key = token.span;
-                if find_key(sw, text, table, children, key) {
-                    return Item::Refused(Refusal {
-                        number: DUPLICATE_KEY,
-                        place,
-                    });
-                }
-                return after_key(sw, text, key);
+                return match token_after(sw, text, key.stop, b':') {
+                    Ahead::Token(first) => Item::Value { token: first, key },
+                    Ahead::Refused(refusal) => {
+                        let own = key_refusal(sw, text, table, children, key, refusal);
+                        Item::Refused(own)
+                    }
+                };
             }
             Item::Refused(Refusal {
                 number: UNEXPECTED,
@@ -222,7 +211,7 @@ fn next_field(sw: Switches, text: &[u8], table: &[u32], children: Children, from
 }
 
 // A child's first token, or the end, of a container with these children.
-pub(crate) fn next_item(
+fn next_item(
     sw: Switches,
     text: &[u8],
     table: &[u32],
@@ -241,7 +230,7 @@ pub(crate) fn next_item(
 }
 
 // What follows a child.
-pub(crate) fn after_item(sw: Switches, text: &[u8], kind: Kind, from: usize) -> After
+fn after_item(sw: Switches, text: &[u8], kind: Kind, from: usize) -> After
     ensures { λ r. ⌜ r ≡ followsAt sw (now (text .entry)) kind from ⌝ }
 {
     let closer = closer_of(kind);
@@ -260,5 +249,27 @@ pub(crate) fn after_item(sw: Switches, text: &[u8], kind: Kind, from: usize) -> 
             })
         }
         Ahead::Refused(refusal) => After::Refused(refusal),
+    }
+}
+
+// A child's first token, or the end, from where the last of these children ends, or the opening bracket if there is none.
+pub(crate) fn next_child(
+    sw: Switches,
+    text: &[u8],
+    table: &[u32],
+    kind: Kind,
+    children: Children,
+    from: usize,
+) -> Item
+    requires { ⌜ Look sw (now text) kind (now table) children from ⌝ }
+    ensures { λ r. ⌜ ChildAt sw (now (text .entry)) kind (now (table .entry)) children from r ⌝ }
+{
+    if children.count == 0 {
+        return next_item(sw, text, table, kind, children, from);
+    }
+    match after_item(sw, text, kind, from) {
+        After::Refused(refusal) => Item::Refused(refusal),
+        After::Over(end) => Item::Last(end),
+        After::More(comma) => next_item(sw, text, table, kind, children, comma),
     }
 }

@@ -1,5 +1,5 @@
 // Keys: whether one stands among the keys of an object's children so far, which are found by following word 8.
-ghost use Rattle.reader.specs.Internal.Values.{HaveKeys, KeyHere, FoundKey};
+ghost use Rattle.reader.specs.Internal.Values.{HaveKeys, KeyHere, FoundKey, KeyRefused};
 use super::rows::KEY_START;
 use super::rows::KEY_STOP;
 use super::rows::NEXT;
@@ -7,6 +7,8 @@ use super::rows::word_of;
 use super::tree::Children;
 use lexer::token::content_is;
 use lexer::token::part_of;
+use text::refusal::DUPLICATE_KEY;
+use text::refusal::Refusal;
 use text::span::Span;
 use text::switches::Switches;
 
@@ -41,4 +43,27 @@ pub(crate) fn find_key(
         child = word_of(table, child, NEXT);
     }
     false
+}
+
+// What is refused after a key, in its field: 8 at the key if it is one of the children's, or else the refusal itself.
+pub(crate) fn key_refusal(
+    sw: Switches,
+    text: &[u8],
+    table: &[u32],
+    children: Children,
+    key: Span,
+    refusal: Refusal,
+) -> Refusal
+    requires { ⌜ HaveKeys sw (now text) (now table) (children .first) (children .next) ⌝ }
+    requires { ⌜ KeyHere sw (now text) (key .start) (key .stop) ⌝ }
+    ensures { λ r. ⌜ KeyRefused sw (now (text .entry)) (now (table .entry)) (children .first) (children .next) (key .start) (key .stop) refusal r ⌝ }
+{
+    if find_key(sw, text, table, children, key) {
+        let place = key.start;
+        return Refusal {
+            number: DUPLICATE_KEY,
+            place,
+        };
+    }
+    refusal
 }

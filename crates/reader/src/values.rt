@@ -2,10 +2,8 @@
 ghost use mathlib.Core.Path.{_≡_};
 ghost use mathlib.Core.Bool.{true, _&&_};
 ghost use lib.Dec.{leb};
-ghost use Prim.Native.Nat.{_≤_, _<_, _*_};
+ghost use Prim.Native.Nat.{_≤_, _<_};
 ghost use lib.ListN.{length};
-ghost use lib.Seq.{sets};
-ghost use Rattle.reader.specs.Tree.{nodeWords};
 ghost use Rattle.reader.specs.Reading.{maxText};
 ghost use Rattle.reader.specs.Syntax.{container, identifier};
 ghost use Rattle.reader.specs.Internal.Tokens.{IsToken, beginsAt};
@@ -15,24 +13,26 @@ ghost use Rattle.reader.specs.Internal.Values.{
   freshDue,
   childSpot,
   namedDue,
-  rowOf,
-  branchWords,
   RowRoom,
   leafProgress,
   leafTable,
   Ready,
   Placed,
   ReadAs,
+  Keys,
+  BranchEnded,
 };
 use super::begin::begin_of;
-use super::items::After;
+use super::duplicates::Duplicate;
 use super::items::Ahead;
 use super::items::Item;
 use super::items::Only;
-use super::items::after_item;
-use super::items::next_item;
+use super::items::next_child;
 use super::items::one_mark;
 use super::items::token_after;
+use super::late::child_refusal;
+use super::late::find_duplicate;
+use super::late::late_refusal;
 use super::rows::kind_word;
 use super::rows::put_row;
 use super::rows::put_stop;
@@ -47,11 +47,13 @@ use super::tree::SpanWords;
 use super::tree::Spot;
 use super::tree::Words;
 use lexer::item::Token;
+use text::refusal::DUPLICATE_KEY;
 use text::refusal::NO_NODE_LEFT;
 use text::refusal::Refusal;
 use text::refusal::TOO_DEEP;
 use text::refusal::UNEXPECTED;
 use text::span::Span;
+use text::switches::Switches;
 
 // A value was read: the place after it, and the number of nodes then; or a refusal.
 pub enum Progress {
@@ -161,21 +163,37 @@ fn put_leaf(limits: Limits, table: &mut [u32], due: Due, span: Span, words: Word
     })
 }
 
-// A container that ends at `stop`, with all its children.
-fn put_branch(table: &mut [u32], due: Due, kind: Kind, children: Children, stop: usize) -> Progress
+// The end of a container, at `stop`: its row, or a refusal if a key of its children is a duplicate.
+fn put_branch(
+    sw: Switches,
+    text: &[u8],
+    table: &mut [u32],
+    due: Due,
+    kind: Kind,
+    children: Children,
+    stop: usize,
+) -> Progress
+    requires { ⌜ Keys sw (now text) kind (now table) children ⌝ }
     requires { ⌜ RowRoom (now table) due stop (children .next) ⌝ }
     requires { ⌜ children .count ≤ children .next ⌝ }
-    ensures { λ r. ⌜ r ≡ Progress.Done stop (children .next) ⌝ }
-    ensures { λ _. ⌜ now (table .exit) ≡ sets (now (table .entry)) (nodeWords * due .spot .node) (rowOf due (branchWords kind (children .count)) stop (children .next)) ⌝ }
+    ensures { λ r. ⌜ BranchEnded sw (now (text .entry)) due kind children stop (now (table .entry)) (now (table .exit)) r ⌝ }
 {
-    let words = Words {
-        kind: kind_word(kind),
-        low: children.count as u32,
-        high: 0,
-        extra: 0,
-    };
-    put_row(table, due, words, stop, children.next);
-    Progress::Done(stop, children.next)
+    match find_duplicate(sw, text, table, kind, children) {
+        Duplicate::At(place) => Progress::Refused(Refusal {
+            number: DUPLICATE_KEY,
+            place,
+        }),
+        Duplicate::Nowhere => {
+            let words = Words {
+                kind: kind_word(kind),
+                low: children.count as u32,
+                high: 0,
+                extra: 0,
+            };
+            put_row(table, due, words, stop, children.next);
+            Progress::Done(stop, children.next)
+        }
+    }
 }
 
 // ---- the cycle
@@ -205,7 +223,9 @@ pub(crate) fn read_value(
     }
 }
 
-// The object, array or tuple that this bracket opens.
+// The object, array or tuple that this bracket opens. A duplicate key is not refused at the key but where the container ends or where
+// anything in it is refused, so that its keys are looked through once. `next_child` is called at two places: called at one, it would be
+// compiled into the cycle, whose frame is on the stack once for each open container or identifier.
 fn read_container(
     rules: Rules,
     text: &[u8],
@@ -239,22 +259,34 @@ fn read_container(
         next: first,
         count: 0,
     };
+    let mut item = next_child(rules.sw, text, table, kind, children, from);
     loop {
-        match next_item(rules.sw, text, table, kind, children, from) {
-            Item::Refused(refusal) => return Progress::Refused(refusal),
-            Item::Last(end) => return put_branch(table, due, kind, children, end),
+        match item {
+            Item::Refused(refusal) => {
+                let late = late_refusal(rules.sw, text, table, kind, children, refusal);
+                return Progress::Refused(late);
+            }
+            Item::Last(end) => return put_branch(rules.sw, text, table, due, kind, children, end),
             Item::Value { token, key } => {
                 let child = child_due(spot, children.next, token.span.start, key);
                 match read_value(rules, text, table, child, token) {
-                    Progress::Refused(refusal) => return Progress::Refused(refusal),
+                    Progress::Refused(refusal) => {
+                        let late = child_refusal(
+                            rules.sw,
+                            text,
+                            table,
+                            kind,
+                            children,
+                            key,
+                            refusal,
+                        );
+                        return Progress::Refused(late);
+                    }
                     Progress::Done(stop, next) => {
                         children.next = next;
                         children.count += 1;
-                        match after_item(rules.sw, text, kind, stop) {
-                            After::Refused(refusal) => return Progress::Refused(refusal),
-                            After::Over(end) => return put_branch(table, due, kind, children, end),
-                            After::More(comma) => from = comma,
-                        }
+                        from = stop;
+                        item = next_child(rules.sw, text, table, kind, children, from);
                     }
                 }
             }

@@ -2,6 +2,7 @@
 //! output buffers compared whole; corrections and undos with all buffers
 //! compared whole; tables before and after insertions; both numbers of the UTF-8
 //! check; the answers to paths, with the tables; and summaries, with the tables.
+//! Texts of many keys are compared as other texts are.
 
 use second::book::Call;
 use second::utf8::Checked;
@@ -13,6 +14,7 @@ use crate::finding;
 use crate::heights::Summary;
 use crate::histories::{History, Lent};
 use crate::insertions;
+use crate::keying;
 use crate::random::Random;
 use crate::summarizing;
 use crate::texts::Case;
@@ -154,6 +156,12 @@ fn summarized_document(
 pub fn summarized(random: &mut Random, seen: &mut summarizing::Seen) -> Result<(), String> {
     let on_trial = summarizing::OnTrial { summarizer: duper_summary, further: summarized_document };
     summarizing::trial(random, on_trial, seen)
+}
+
+/// Holds `duper`'s reading of a text of many keys against `second`'s and what is
+/// known; the error tells the difference.
+pub fn keyed(random: &mut Random, seen: &mut keying::Seen) -> Result<(), String> {
+    keying::trial(random, duper_read, seen)
 }
 
 /// A document that may grow as far as buffers of these lengths let it.

@@ -14,7 +14,9 @@
 //! [`finding`] holds asking by path against what is known and `second`'s.
 //! [`heights`] makes heights, [`records`] makes texts of records with them, and
 //! [`summarizing`] holds the season's summary against what is known and
-//! `second`'s.
+//! `second`'s. [`keys`] makes texts with objects of many keys, and [`keying`] holds
+//! a reader against what is known of them and `second`. [`hostile`] has the texts
+//! that take such a reader longest, for `bench`.
 //! `against` compares both readers and their calls; it needs the feature of that
 //! name, on unless turned off, since it links the archive.
 
@@ -33,7 +35,12 @@ mod finders;
 pub mod finding;
 pub mod heights;
 pub mod histories;
+pub mod hostile;
 pub mod insertions;
+#[cfg(test)]
+mod keyers;
+pub mod keying;
+pub mod keys;
 pub mod paths;
 pub mod random;
 pub mod records;

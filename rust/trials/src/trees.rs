@@ -13,7 +13,7 @@ use crate::writer::{self, Row};
 /// A value, as far as paths and summaries go.
 #[derive(Debug, Clone, PartialEq, Eq)]
 pub enum Tree {
-    /// Members, no two with one key.
+    /// Members; no two have one key, but where [`crate::keys`] wants it.
     Object(Vec<(String, Tree)>),
     /// Items.
     Array(Vec<Tree>),

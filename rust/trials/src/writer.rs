@@ -35,12 +35,16 @@ struct Writer<'r> {
     /// Whether all is as short as can be: no spaces, comments or identifiers,
     /// and every scalar is `0`.
     terse: bool,
+    /// In a quoted string about one character in so many is escaped; how many is
+    /// chosen for each, within both ends.
+    escapes: (usize, usize),
 }
 
 impl<'r> Writer<'r> {
     fn new(random: &'r mut Random, budget: usize, room: usize) -> Self {
         let many_zeros = random.one_in(200);
-        Writer { random, done: Written::default(), budget, room, many_zeros, terse: false }
+        let done = Written::default();
+        Writer { random, done, budget, room, many_zeros, terse: false, escapes: (1, 12) }
     }
 }
 
@@ -67,8 +71,18 @@ pub fn write_value(random: &mut Random, nodes: usize, root: bool) -> Written {
 /// Writes a text of this value, which must be a container; scalars may be any.
 /// `terse`: as short as can be.
 pub fn write_tree(random: &mut Random, tree: &Tree, terse: bool) -> Written {
+    write_keys(random, tree, terse, (1, 12))
+}
+
+/// The same, with escapes so far apart in quoted strings.
+pub fn write_keys(
+    random: &mut Random,
+    tree: &Tree,
+    terse: bool,
+    escapes: (usize, usize),
+) -> Written {
     let mut writer = Writer::new(random, 0, 0);
-    (writer.many_zeros, writer.terse) = (false, terse);
+    (writer.many_zeros, writer.terse, writer.escapes) = (false, terse, escapes);
     writer.gap();
     writer.tree(None, (0, 0), tree);
     writer.gap();
@@ -432,7 +446,8 @@ impl Writer<'_> {
     fn quoted(&mut self, open: &str, content: &[u8], text: bool) {
         self.put(open.as_bytes());
         let mut rest = content;
-        let dense = self.random.between(1, 12);
+        let (least, most) = self.escapes;
+        let dense = self.random.between(least, most);
         while !rest.is_empty() {
             // The next whole character, if there is one.
             let whole = (1..=4.min(rest.len()))

@@ -14,13 +14,10 @@ use Rattle.lexer.specs.declared.item.Next.the-variants as N
 use Rattle.lexer.specs.Token.{tokensFrom}
 use Rattle.lexer.specs.Answer.{firstOf}
 use Rattle.reader.specs.declared.tree.Kind.{Kind}
-use Rattle.text.specs.declared.span.Span as CS
 use Rattle.reader.specs.declared.items.Ahead.{Ahead}
 use Rattle.reader.specs.declared.items.Ahead.the-variants as H
 use Rattle.reader.specs.declared.items.Only.{Only}
 use Rattle.reader.specs.declared.items.Only.the-variants as O
-use Rattle.reader.specs.declared.items.Item.{Item}
-use Rattle.reader.specs.declared.items.Item.the-variants as I
 use Rattle.reader.specs.declared.items.After.{After}
 use Rattle.reader.specs.declared.items.After.the-variants as X
 use Rattle.reader.specs.Syntax.{closer}
@@ -69,11 +66,6 @@ pastMark sw s (O.Refused f) = H.Refused f
 -- the token after this mark, which comes next
 abbrev pub aheadAfter : Switches → List ℕ → (from want : ℕ) → Ahead
 aheadAfter sw s from want = pastMark sw s (onlyAt sw s from want)
-
--- a value's first token with its key
-unfoldable pub keyedItem : CS.Span → Ahead → Item
-keyedItem key (H.Token t) = I.Value t key
-keyedItem key (H.Refused f) = I.Refused f
 
 -- what follows a child of such a container
 unfoldable pub followsBy : Kind → Ahead → After

@@ -10,10 +10,12 @@ use lib.Dec.{eqb, leb}
 use lib.ListN.{length, getD, take, drop}
 use lib.Seq.{sets}
 use Rattle.text.specs.declared.switches.Switches.{Switches}
+use Rattle.text.specs.declared.refusal.Refusal.{Refusal}
 use Rattle.text.specs.Refusal.{refusal}
 use Rattle.lexer.specs.declared.item.TokenKind.{TokenKind}
 use Rattle.lexer.specs.Token.{tokensFrom, tokenContent}
 use Rattle.reader.specs.declared.tree.Kind.{Kind}
+use Rattle.reader.specs.declared.tree.Kind.the-variants.{Object}
 use Rattle.reader.specs.declared.tree.Limits.{Limits}
 use Rattle.reader.specs.declared.tree.Rules.{Rules}
 use Rattle.text.specs.declared.span.Span as CS
@@ -25,11 +27,13 @@ use Rattle.reader.specs.declared.tree.Children.{Children}
 use Rattle.reader.specs.declared.tree.Words.{Words}
 use Rattle.reader.specs.declared.items.Item.{Item}
 use Rattle.reader.specs.declared.items.Item.the-variants as I
+use Rattle.reader.specs.declared.duplicates.Duplicate.{Duplicate}
+use Rattle.reader.specs.declared.duplicates.Duplicate.the-variants as D
 use Rattle.reader.specs.declared.values.Progress.{Progress}
 use Rattle.reader.specs.declared.values.Progress.the-variants as A
 use Rattle.reader.specs.Tree.{Span, Tree, branch, Forest, size, headOf, rows, kindNumber, nodeWords}
 use Rattle.reader.specs.Reading.{maxText, maxNodes, wordOf}
-use Rattle.reader.specs.Syntax.{Label, label, Frame, frame, Slot, first, more, value, inside, Config, config, Begins, begins, spanOf, isObject, headBy, ended, valueStep, Outcome, refused, afterStep, run, holds}
+use Rattle.reader.specs.Syntax.{Label, label, Frame, frame, Slot, first, after, more, value, inside, Config, config, Begins, begins, spanOf, isObject, headBy, ended, valueStep, Outcome, refused, afterStep, run, holds}
 use Rattle.reader.specs.Internal.Tokens.{formAt, tokenAt, TokenAt}
 
 -- ---- spans, labels and rows, as the code carries them
@@ -151,15 +155,54 @@ pub record KeyHere (sw : Switches) (s : List ℕ) (a e : ℕ) : Type 0 where
 pub record FoundKey (sw : Switches) (s tab : List ℕ) (x m a e : ℕ) (r : Bool) : Type 0 where
   pub is : (w : List ℕ) → KeyAt sw s a e w → (ks : List (List ℕ)) → SiblingKeys sw s tab x m ks → r ≡ holds ks w
 
+-- ---- duplicate keys: they are looked for where a container ends or is refused, and not at each key
+
+-- The place of the first key that stands among those before it. The nodes from x on, side by side, have keys with the contents ks, and
+-- `seen` come before them.
+unfoldable pub duplicate : (tab : List ℕ) (x : ℕ) (seen ks : List (List ℕ)) → Option ℕ
+duplicate tab x seen [] = none
+duplicate tab x seen (w ∷ ks) = cond (holds seen w) (some (wordOf tab x 4)) (duplicate tab (wordOf tab x 8) (seen ++ (w ∷ [])) ks)
+
+-- the same of a container's children, of which an object's have keys
+unfoldable pub duplicateIn : Kind → (tab : List ℕ) (x : ℕ) (ks : List (List ℕ)) → Option ℕ
+duplicateIn kind tab x ks = cond (isObject kind) (duplicate tab x [] ks) none
+
+-- a child's key, which begins at a and has the content w, if it is among ks
+unfoldable pub keyDuplicate : Kind → (a : ℕ) (ks : List (List ℕ)) (w : List ℕ) → Option ℕ
+keyDuplicate kind a ks w = cond (isObject kind && holds ks w) (some a) none
+
+-- 8 at that place, if there is one, comes before what else comes
+unfoldable pub unlessDuplicate : Option ℕ → Outcome → Outcome
+unlessDuplicate none o = o
+unlessDuplicate (some place) o = refused 8 place
+
+-- what the code found
+unfoldable pub placeOf : Duplicate → Option ℕ
+placeOf (D.At place) = some place
+placeOf D.Nowhere = none
+
+-- the first duplicate key of the nodes from x to m
+pub record DuplicateAt (sw : Switches) (s tab : List ℕ) (x m : ℕ) (r : Duplicate) : Type 0 where
+  pub is : (ks : List (List ℕ)) → SiblingKeys sw s tab x m ks → placeOf r ≡ duplicate tab x [] ks
+
+-- the refusal f comes after the key from a to e, unless this key is among those of the nodes from x to m
+pub record KeyRefused (sw : Switches) (s tab : List ℕ) (x m a e : ℕ) (f r : Refusal) : Type 0 where
+  pub is : (w : List ℕ) → KeyAt sw s a e w → (ks : List (List ℕ)) → SiblingKeys sw s tab x m ks
+      → refused (r .number) (r .place) ≡ unlessDuplicate (keyDuplicate Object a ks w) (refused (f .number) (f .place))
+
 -- ---- the items of a container
 
 -- where a container with so many children stands, if a child or the end is due
 abbrev pub slotOf : (children : ℕ) → Slot
 slotOf z = cond (eqb z 0) first more
 
--- a container of this kind with so many children, where a child or the end is due
-abbrev pub innerAt : Kind → Label → Forest → List (List ℕ) → List Frame → (m z : ℕ) → Config
-innerAt kind l ts ks stack m z = config (frame kind l ts ks ∷ stack) (inside (slotOf z)) m
+-- the same before the comma after the last child, if there is one
+abbrev pub turnOf : (children : ℕ) → Slot
+turnOf z = cond (eqb z 0) first after
+
+-- inside a container of this kind
+abbrev pub innerAt : Kind → Label → Forest → List (List ℕ) → List Frame → (m : ℕ) → Slot → Config
+innerAt kind l ts ks stack m slot = config (frame kind l ts ks ∷ stack) (inside slot) m
 
 -- the children so far, as the code knows them: in an object, their rows in the table from x to m
 pub record Known (sw : Switches) (s : List ℕ) (kind : Kind) (tab : List ℕ) (x m : ℕ) (ks : List (List ℕ)) : Type 0 where
@@ -172,7 +215,7 @@ pub record Look (sw : Switches) (s : List ℕ) (kind : Kind) (tab : List ℕ) (c
   pub siblings : isObject kind ≡ true → HaveKeys sw s tab (c .first) (c .next)
 
 -- a child's first token comes, with its key from a to b
-pub record Valued (sw : Switches) (s : List ℕ) (kind : Kind) (tab : List ℕ) (i x m z : ℕ) (k : TokenKind) (start stop a b : ℕ) : Type 0 where
+pub record Valued (sw : Switches) (s : List ℕ) (kind : Kind) (tab : List ℕ) (i x m : ℕ) (slot : Slot) (k : TokenKind) (start stop a b : ℕ) : Type 0 where
   pub token : TokenAt sw s k start stop
   pub ahead : i ≤ start
   pub apart : b ≡ 0 → a ≡ 0
@@ -182,33 +225,38 @@ pub record Valued (sw : Switches) (s : List ℕ) (kind : Kind) (tab : List ℕ) 
   pub keys : List (List ℕ) → List (List ℕ)
   pub added : isObject kind ≡ true → (ks : List (List ℕ)) → keys ks ≡ ks ++ (content ∷ [])
   pub ran : (limits : Limits) (l : Label) (ts : Forest) (ks : List (List ℕ)) (stack : List Frame) → Known sw s kind tab x m ks
-      → runFrom sw limits s i (innerAt kind l ts ks stack m z) ≡ openedHere sw limits s start stop true (spanAt a b) m (frame kind l ts (keys ks) ∷ stack)
+      → runFrom sw limits s i (innerAt kind l ts ks stack m slot)
+      ≡ unlessDuplicate (keyDuplicate kind a ks content) (openedHere sw limits s start stop true (spanAt a b) m (frame kind l ts (keys ks) ∷ stack))
 
 -- the end comes
-pub record Ends (sw : Switches) (s : List ℕ) (kind : Kind) (tab : List ℕ) (i x m z j : ℕ) : Type 0 where
+pub record Ends (sw : Switches) (s : List ℕ) (kind : Kind) (tab : List ℕ) (i x m : ℕ) (slot : Slot) (j : ℕ) : Type 0 where
   pub ahead : i < j
   pub inside : j ≤ length s
   pub ran : (limits : Limits) (l : Label) (ts : Forest) (ks : List (List ℕ)) (stack : List Frame) → Known sw s kind tab x m ks
-      → runFrom sw limits s i (innerAt kind l ts ks stack m z) ≡ runFrom sw limits s j (ended stack m (l .name) (branch (headBy l j) kind ts))
+      → runFrom sw limits s i (innerAt kind l ts ks stack m slot) ≡ runFrom sw limits s j (ended stack m (l .name) (branch (headBy l j) kind ts))
 
 -- a refusal comes
-pub record Refuses (sw : Switches) (s : List ℕ) (kind : Kind) (tab : List ℕ) (i x m z number place : ℕ) : Type 0 where
+pub record Refuses (sw : Switches) (s : List ℕ) (kind : Kind) (tab : List ℕ) (i x m : ℕ) (slot : Slot) (number place : ℕ) : Type 0 where
   pub ran : (limits : Limits) (l : Label) (ts : Forest) (ks : List (List ℕ)) (stack : List Frame) → Known sw s kind tab x m ks
-      → runFrom sw limits s i (innerAt kind l ts ks stack m z) ≡ refused number place
+      → runFrom sw limits s i (innerAt kind l ts ks stack m slot) ≡ refused number place
 
 -- `Valued`, `Ends` or `Refuses`, by the code's answer
-abbrev pub ItemIs : Switches → List ℕ → Kind → List ℕ → (i x m z : ℕ) → Item → Type 0
-ItemIs sw s kind tab i x m z (I.Value t key) = Valued sw s kind tab i x m z (t .kind) (t .span .start) (t .span .stop) (key .start) (key .stop)
-ItemIs sw s kind tab i x m z (I.Last j) = Ends sw s kind tab i x m z j
-ItemIs sw s kind tab i x m z (I.Refused f) = Refuses sw s kind tab i x m z (f .number) (f .place)
+abbrev pub ItemIs : Switches → List ℕ → Kind → List ℕ → (i x m : ℕ) → Slot → Item → Type 0
+ItemIs sw s kind tab i x m slot (I.Value t key) = Valued sw s kind tab i x m slot (t .kind) (t .span .start) (t .span .stop) (key .start) (key .stop)
+ItemIs sw s kind tab i x m slot (I.Last j) = Ends sw s kind tab i x m slot j
+ItemIs sw s kind tab i x m slot (I.Refused f) = Refuses sw s kind tab i x m slot (f .number) (f .place)
 
--- the same as a record
+-- the same as a record, where a child or the end is due
 pub record ItemAt (sw : Switches) (s : List ℕ) (kind : Kind) (tab : List ℕ) (c : Children) (i : ℕ) (r : Item) : Type 0 where
-  pub is : ItemIs sw s kind tab i (c .first) (c .next) (c .count) r
+  pub is : ItemIs sw s kind tab i (c .first) (c .next) (slotOf (c .count)) r
 
--- the same for every table: the items of an array or a tuple do not hang on it
+-- the same after the last child, if there is one
+pub record ChildAt (sw : Switches) (s : List ℕ) (kind : Kind) (tab : List ℕ) (c : Children) (i : ℕ) (r : Item) : Type 0 where
+  pub is : ItemIs sw s kind tab i (c .first) (c .next) (turnOf (c .count)) r
+
+-- `ItemAt` for every table: the items of an array or a tuple do not hang on it
 pub record ElementAt (sw : Switches) (s : List ℕ) (kind : Kind) (z i : ℕ) (r : Item) : Type 0 where
-  pub is : (tab : List ℕ) (x m : ℕ) → ItemIs sw s kind tab i x m z r
+  pub is : (tab : List ℕ) (x m : ℕ) → ItemIs sw s kind tab i x m (slotOf z) r
 
 -- ---- values
 
@@ -276,3 +324,47 @@ openedBy rules s due span b = opened (rules .sw) (rules .limits) s (span .start)
 -- the value that is due was read, or refused, from a token that begins b
 pub record ReadAs (rules : Rules) (s : List ℕ) (due : Due) (span : CS.Span) (b : Begins) (tin tout : List ℕ) (r : Progress) : Type 0 where
   pub is : ProgressIs (rules .sw) (rules .limits) s (openedBy rules s due span b) (labelOf (due .label)) (span .start) (due .spot .depth) (due .spot .parent) (due .spot .node) tin tout r
+
+-- ---- what comes late: a duplicate key is refused before all that stands after it
+
+-- what a search for a container's duplicate keys is handed; no child is the root
+pub record Keys (sw : Switches) (s : List ℕ) (kind : Kind) (tab : List ℕ) (c : Children) : Type 0 where
+  pub siblings : isObject kind ≡ true → HaveKeys sw s tab (c .first) (c .next)
+  pub not-root : 0 < c .first
+  pub few : c .next ≤ maxNodes
+
+-- a child's key, if it has one
+pub record KeyIn (sw : Switches) (s : List ℕ) (kind : Kind) (key : CS.Span) : Type 0 where
+  pub here : isObject kind ≡ true → KeyHere sw s (key .start) (key .stop)
+
+-- the first duplicate key of a container's children
+pub record FirstDuplicate (sw : Switches) (s : List ℕ) (kind : Kind) (tab : List ℕ) (c : Children) (r : Duplicate) : Type 0 where
+  pub is : (ks : List (List ℕ)) → Known sw s kind tab (c .first) (c .next) ks → placeOf r ≡ duplicateIn kind tab (c .first) ks
+
+-- the refusal f comes, unless a key of the children before it is a duplicate
+pub record RefusedLate (sw : Switches) (s : List ℕ) (kind : Kind) (tab : List ℕ) (c : Children) (f r : Refusal) : Type 0 where
+  pub is : (ks : List (List ℕ)) → Known sw s kind tab (c .first) (c .next) ks
+      → refused (r .number) (r .place) ≡ unlessDuplicate (duplicateIn kind tab (c .first) ks) (refused (f .number) (f .place))
+
+-- the same in the value with this key, which may itself be a duplicate
+pub record ChildRefusedLate (sw : Switches) (s : List ℕ) (kind : Kind) (tab : List ℕ) (c : Children) (key : CS.Span) (f r : Refusal) : Type 0 where
+  pub is : (ks : List (List ℕ)) → Known sw s kind tab (c .first) (c .next) ks → (w : List ℕ) → (isObject kind ≡ true → KeyAt sw s (key .start) (key .stop) w)
+      → refused (r .number) (r .place)
+      ≡ unlessDuplicate (duplicateIn kind tab (c .first) ks) (unlessDuplicate (keyDuplicate kind (key .start) ks w) (refused (f .number) (f .place)))
+
+-- where a container ends: 8 at a duplicate key, if one was found
+unfoldable pub branchProgress : Duplicate → (stop next : ℕ) → Progress
+branchProgress (D.At place) stop next = A.Refused (refusal 8 place)
+branchProgress D.Nowhere stop next = A.Done stop next
+
+-- the table then: the container's row, if none was found
+unfoldable pub branchTable : Duplicate → Due → Kind → Children → (stop : ℕ) → List ℕ → List ℕ
+branchTable (D.At place) due kind c stop tab = tab
+branchTable D.Nowhere due kind c stop tab = sets tab (nodeWords * due .spot .node) (rowOf due (branchWords kind (c .count)) stop (c .next))
+
+-- a container with these children has ended
+pub record BranchEnded (sw : Switches) (s : List ℕ) (due : Due) (kind : Kind) (c : Children) (stop : ℕ) (tin tout : List ℕ) (r : Progress) : Type 0 where
+  pub found : Duplicate
+  pub first-found : FirstDuplicate sw s kind tin c found
+  pub answered : r ≡ branchProgress found stop (c .next)
+  pub wrote : tout ≡ branchTable found due kind c stop tin

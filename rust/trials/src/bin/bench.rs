@@ -1,16 +1,39 @@
-//! `bench [--clear] [--rounds N] [--slow]`: nanoseconds a byte of both readers,
-//! on the same texts in one run, and their ratio; then of their UTF-8 checks
-//! alone, beside Rust's own.
+//! `bench [--clear] [--rounds N] [--slow | --worst]`: nanoseconds a byte of both
+//! readers, on the same texts in one run, and their ratio; then of their UTF-8
+//! checks alone, beside Rust's own. `--slow` adds the slowest text known to the
+//! reader that compared all keys. `--worst` times, in place of all these, the texts
+//! of `hostile`: objects of some keys, and the worst for doubled keys.
 
 use std::fmt::Write as _;
 use std::hint::black_box;
 use std::time::{Duration, Instant};
+
+use trials::hostile::{self, Hostile};
 
 /// A text to time, and the table's length in words.
 struct Bench {
     name: String,
     text: Vec<u8>,
     words: usize,
+    /// Number and place if it is refused.
+    refusal: Option<(u32, u64)>,
+    /// Calls in a row that are timed as one, for texts so short that looking at the
+    /// clock would count.
+    calls: u32,
+}
+
+impl Bench {
+    fn new(name: impl Into<String>, text: Vec<u8>, words: usize) -> Bench {
+        Bench { name: name.into(), text, words, refusal: None, calls: 1 }
+    }
+
+    fn of(hostile: Hostile) -> Bench {
+        let Hostile { name, text, refusal } = hostile;
+        // A table of all rows would take longer to clear than a short text to read.
+        let is_short = text.len() < 100;
+        let words = if is_short { 12 * text.len() / 4 } else { FULL };
+        Bench { name, text, words, refusal, calls: if is_short { 1_000 } else { 1 } }
+    }
 }
 
 type Reader = fn(&[u8], &mut [u32]) -> Result<usize, (u32, u64)>;
@@ -92,49 +115,28 @@ fn keys(open: &str, close: &str) -> Vec<u8> {
     format!("{{{}}}", pairs.join(",")).into_bytes()
 }
 
-/// One object of 2,350 keys that all begin with twelve times the letter a. The
-/// first four are spelled in two ways, so that few pairs of keys are spelled
-/// alike.
-fn spellings() -> Vec<u8> {
-    let letter = |n: usize, bit: usize| if n >> bit & 1 == 0 { "a" } else { "\\x61" };
-    let pairs: Vec<_> = (0..2350)
-        .map(|n| {
-            let front: String = (0..4).map(|bit| letter(n, bit)).collect();
-            format!("\"{front}aaaaaaaa{n:04}\":0")
-        })
-        .collect();
-    format!("{{{}}}", pairs.join(",")).into_bytes()
-}
-
 fn benches(slow: bool) -> Vec<Bench> {
+    let long = format!("[\"{}\"]", "x".repeat(65_532)).into_bytes();
+    // With the array itself that makes 4,096 nodes.
+    let nulls = format!("[{}null]", "null,".repeat(4094)).into_bytes();
     let mut benches = vec![
-        Bench { name: "season file".into(), text: season(65_536), words: FULL },
-        Bench { name: "JSON-like records".into(), text: json(), words: FULL },
-        Bench {
-            name: "one long string".into(),
-            text: format!("[\"{}\"]", "x".repeat(65_532)).into_bytes(),
-            words: FULL,
-        },
-        Bench { name: "4,000 keys, one object".into(), text: keys("key", ""), words: FULL },
-        Bench { name: "4,000 keys in quotes".into(), text: keys("\"key", "\""), words: FULL },
-        Bench { name: "4,000 keys, escapes".into(), text: keys("\"\\x6b", "\""), words: FULL },
-        Bench {
-            // With the array itself that makes 4,096 nodes.
-            name: "4,095 nulls, one array".into(),
-            text: format!("[{}null]", "null,".repeat(4094)).into_bytes(),
-            words: FULL,
-        },
+        Bench::new("season file", season(65_536), FULL),
+        Bench::new("JSON-like records", json(), FULL),
+        Bench::new("one long string", long, FULL),
+        Bench::new("4,000 keys, one object", keys("key", ""), FULL),
+        Bench::new("4,000 keys in quotes", keys("\"key", "\""), FULL),
+        Bench::new("4,000 keys, escapes", keys("\"\\x6b", "\""), FULL),
+        Bench::new("4,095 nulls, one array", nulls, FULL),
     ];
     if slow {
-        let name = "2,350 keys, two ways".into();
-        benches.push(Bench { name, text: spellings(), words: FULL });
+        benches.push(Bench::of(hostile::spellings()));
     }
     for kib in [1, 2, 4, 8, 16, 32, 64] {
         let text = season(kib * 1024);
         // Growth is shown with a table that grows along: one row for every 16
         // bytes is what these records need.
         let words = text.len() / 16 * 12;
-        benches.push(Bench { name: format!("season, {kib} KiB"), text, words });
+        benches.push(Bench::new(format!("season, {kib} KiB"), text, words));
     }
     benches
 }
@@ -173,11 +175,14 @@ fn time(bench: &Bench, rounds: usize, clear: bool) -> Vec<(Duration, Duration)> 
         if clear {
             tables[at].fill(0);
         }
+        let mut answer = Ok(0);
         let started = Instant::now();
-        let answer = reader(black_box(&bench.text), black_box(&mut tables[at]));
-        let taken = started.elapsed();
-        if let Err((number, place)) = answer {
-            panic!("{}: refused {number} {place}", bench.name);
+        for _ in 0..bench.calls {
+            answer = reader(black_box(&bench.text), black_box(&mut tables[at]));
+        }
+        let taken = started.elapsed() / bench.calls;
+        if answer.err() != bench.refusal {
+            panic!("{}: answered {answer:?}", bench.name);
         }
         taken
     })
@@ -224,21 +229,60 @@ fn print_checks(rounds: usize) {
     }
 }
 
+/// Texts are timed so long at the most, but three times at least.
+const LONGEST: Duration = Duration::from_secs(4);
+
+/// The rounds that there is time for.
+fn rounds_within(bench: &Bench, rounds: usize) -> usize {
+    let one = time(bench, 1, false).iter().map(|(median, _)| *median).sum::<Duration>();
+    let within = LONGEST.as_nanos() / (one * bench.calls).as_nanos().max(1);
+    rounds.min((within as usize).max(3))
+}
+
+/// Both readers on these texts: nanoseconds a byte, and milliseconds a call.
+fn print_worst(title: &str, texts: Vec<Hostile>, rounds: usize, clear: bool) {
+    println!();
+    println!("{title}. Median (least) of so many rounds, readers in turn.");
+    print!("{:<26}{:>6}{:>6}{:>7}", "text", "bytes", "nodes", "rounds");
+    for (name, _) in READERS {
+        print!("{:>22}{:>22}", format!("{name}, ns a byte"), format!("{name}, ms a call"));
+    }
+    println!();
+    for bench in texts.into_iter().map(Bench::of) {
+        let mut table = vec![0; bench.words];
+        let nodes = trials::check::second_read(&bench.text, &mut table).unwrap_or(0);
+        let rounds = rounds_within(&bench, rounds);
+        print!("{:<26}{:>6}{nodes:>6}{rounds:>7}", bench.name, bench.text.len());
+        let a_byte = |time: Duration| time.as_nanos() as f64 / bench.text.len() as f64;
+        let a_call = |time: Duration| {
+            let ms = time.as_secs_f64() * 1e3;
+            format!("{ms:.*}", if ms < 0.1 { 6 } else { 3 })
+        };
+        for (median, least) in time(&bench, rounds, clear) {
+            print!("{:>11.2} ({:>8.2})", a_byte(median), a_byte(least));
+            print!("{:>11} ({:>8})", a_call(median), a_call(least));
+        }
+        println!();
+    }
+}
+
 fn main() {
     let mut clear = false;
     let mut slow = false;
+    let mut worst = false;
     let mut rounds = 100;
     let mut arguments = std::env::args().skip(1);
     while let Some(argument) = arguments.next() {
         match argument.as_str() {
             "--clear" => clear = true,
             "--slow" => slow = true,
+            "--worst" => worst = true,
             "--rounds" => {
                 let given = arguments.next().and_then(|given| given.parse().ok());
                 rounds = given.filter(|&given| given > 0).unwrap_or(rounds);
             }
             _ => {
-                eprintln!("usage: bench [--clear] [--rounds N] [--slow]");
+                eprintln!("usage: bench [--clear] [--rounds N] [--slow | --worst]");
                 std::process::exit(2);
             }
         }
@@ -249,6 +293,11 @@ fn main() {
         println!("The table was not cleared before a call: it holds the last reading.");
     }
     println!("Each call writes every word of it, rows then zeros, within the time taken.");
+    if worst {
+        print_worst("Objects of some keys", hostile::usual(), rounds, clear);
+        print_worst("The worst for doubled keys", hostile::worst(), rounds, clear);
+        return;
+    }
     println!("Nanoseconds a byte, median (least) of {rounds} rounds, readers in turn.");
     print!("{:<24}{:>7}{:>7}{:>8}", "text", "bytes", "nodes", "words");
     for (name, _) in READERS {

@@ -1,12 +1,13 @@
 //! `trials --texts N --histories N --insertions N --checks N --paths N
-//! --summaries N --seed S`: holds `duper` against `second` on N texts, on N
-//! histories of corrections and undos, on N texts with spaces and comments
-//! inserted, in N UTF-8 checks, on N texts with some paths to ask for each, and on
-//! N texts to be summarized.
+//! --summaries N --keys N --seed S`: holds `duper` against `second` on N texts, on
+//! N histories of corrections and undos, on N texts with spaces and comments
+//! inserted, in N UTF-8 checks, on N texts with some paths to ask for each, on N
+//! texts to be summarized, and on N texts with objects of many keys.
 //!
 //! `--self` looks at `second` alone; `--case K`, `--history K`, `--insertion K`,
-//! `--check K`, `--path K` or `--summary K` runs that text, history, text with
-//! insertions, UTF-8 check, text with paths or text to be summarized only.
+//! `--check K`, `--path K`, `--summary K` or `--key K` runs that text, history,
+//! text with insertions, UTF-8 check, text with paths, text to be summarized or
+//! text of many keys only.
 //! `--short` runs every text of up to two bytes, bare and in a few surroundings,
 //! every exponent of up to six bytes over a small alphabet, and the numbers of
 //! document 02's request 02, in place of random texts.
@@ -22,6 +23,7 @@ use trials::editing::{self, OnTrial, Seen};
 use trials::eights;
 use trials::finding;
 use trials::insertions;
+use trials::keying;
 use trials::random::Random;
 use trials::summarizing;
 use trials::texts;
@@ -35,6 +37,7 @@ struct Options {
     checks: Range<u64>,
     paths: Range<u64>,
     summaries: Range<u64>,
+    keys: Range<u64>,
     seed: u64,
     alone: bool,
     short: bool,
@@ -43,12 +46,12 @@ struct Options {
 const USAGE: &str = "trials [--self] [--seed S] [--short | --texts N | --case K] \
                      [--histories N | --history K] [--insertions N | --insertion K] \
                      [--checks N | --check K] [--paths N | --path K] \
-                     [--summaries N | --summary K]";
+                     [--summaries N | --summary K] [--keys N | --key K]";
 
 fn options() -> Result<Options, String> {
     let now = SystemTime::now().duration_since(SystemTime::UNIX_EPOCH).unwrap_or_default();
     let (mut texts, mut histories, mut insertions) = (None, None, None);
-    let (mut checks, mut paths, mut summaries) = (None, None, None);
+    let (mut checks, mut paths, mut summaries, mut keys) = (None, None, None, None);
     let (mut seed, mut alone, mut short) = (now.as_nanos() as u64, false, false);
     let mut arguments = std::env::args().skip(1);
     while let Some(argument) = arguments.next() {
@@ -70,6 +73,8 @@ fn options() -> Result<Options, String> {
             "--path" => paths = Some(only(number()?)),
             "--summaries" => summaries = Some(0..number()?),
             "--summary" => summaries = Some(only(number()?)),
+            "--keys" => keys = Some(0..number()?),
+            "--key" => keys = Some(only(number()?)),
             "--seed" => seed = number()?,
             "--self" => alone = true,
             "--short" => short = true,
@@ -80,18 +85,18 @@ fn options() -> Result<Options, String> {
         return Err(format!("--short has {} texts, numbered from 0", texts::SHORT));
     }
     // What isn't named isn't run, unless nothing is named.
-    let mut named = [texts, histories, insertions, checks, paths, summaries];
+    let mut named = [texts, histories, insertions, checks, paths, summaries, keys];
     if named.iter().all(Option::is_none) {
-        let counts = [100_000, 10_000, 20_000, 200_000, 20_000, 20_000];
+        let counts = [100_000, 10_000, 20_000, 200_000, 20_000, 20_000, 20_000];
         named = counts.map(|count| Some(0..count));
     }
-    let [texts, histories, insertions, checks, paths, summaries] =
+    let [texts, histories, insertions, checks, paths, summaries, keys] =
         named.map(|range| range.unwrap_or(0..0));
-    Ok(Options { texts, histories, insertions, checks, paths, summaries, seed, alone, short })
+    Ok(Options { texts, histories, insertions, checks, paths, summaries, keys, seed, alone, short })
 }
 
 #[cfg(feature = "against")]
-use trials::against::{annotated, checked, compare, edits, found, summarized};
+use trials::against::{annotated, checked, compare, edits, found, keyed, summarized};
 
 /// Never called: `main` ends before.
 #[cfg(not(feature = "against"))]
@@ -126,6 +131,12 @@ fn found(_: &mut Random, _: &mut finding::Seen) -> Result<(), String> {
 /// Nor is this one.
 #[cfg(not(feature = "against"))]
 fn summarized(_: &mut Random, _: &mut summarizing::Seen) -> Result<(), String> {
+    Ok(())
+}
+
+/// This isn't either.
+#[cfg(not(feature = "against"))]
+fn keyed(_: &mut Random, _: &mut keying::Seen) -> Result<(), String> {
     Ok(())
 }
 
@@ -380,8 +391,9 @@ fn run_paths(options: &Options) -> Result<(), String> {
     Ok(())
 }
 
-/// So many texts must show some of everything that is counted.
-const MANY_SUMMARIES: u64 = 10_000;
+/// So many texts to be summarized, or of many keys, must show some of everything
+/// that is counted.
+const MANY_TEXTS: u64 = 10_000;
 
 /// The texts to be summarized. The error is what to print.
 fn run_summaries(options: &Options) -> Result<(), String> {
@@ -436,7 +448,62 @@ fn run_summaries(options: &Options) -> Result<(), String> {
         listed(&seen.refused)
     );
     let rare = seen.rare();
-    if total >= MANY_SUMMARIES && !rare.is_empty() {
+    if total >= MANY_TEXTS && !rare.is_empty() {
+        return Err(format!("no trial of what hardly came up: {}", rare.join(", ")));
+    }
+    Ok(())
+}
+
+/// The texts of many keys. The error is what to print.
+fn run_keys(options: &Options) -> Result<(), String> {
+    let seed = options.seed;
+    let total = options.keys.end - options.keys.start;
+    let mut progress = Progress::new();
+    let mut seen = keying::Seen::default();
+    for number in options.keys.clone() {
+        let random = &mut Random::for_case(seed.rotate_left(56), number);
+        let outcome = if options.alone {
+            keying::trial(random, trials::check::second_read, &mut seen)
+        } else {
+            keyed(random, &mut seen)
+        };
+        outcome.map_err(|difference| {
+            format!(
+                "difference in key {number} of seed {seed}; again: \
+                 --seed {seed} --key {number}\n{difference}"
+            )
+        })?;
+        progress.tell(|| format!("{} of {total} texts of many keys", number + 1));
+    }
+    println!(
+        "{total} texts of many keys, no difference in answers and {} words, {:.1} s",
+        seen.words,
+        progress.seconds()
+    );
+    println!(
+        "  objects of more than {} keys: {}; the most in one object: {}",
+        keying::MANY,
+        seen.objects,
+        seen.most
+    );
+    println!(
+        "  duplicates reported: {}, of which spelled otherwise than the first: {}, in an object \
+         of more than {} keys: {}, of over 2,046 bytes: {}, with another fault later: {}",
+        seen.doubled(),
+        seen.otherwise,
+        keying::MANY,
+        seen.in_many,
+        seen.long,
+        seen.later
+    );
+    println!(
+        "  taken: {}; refused by number {}; with a duplicate behind another fault: {}",
+        seen.taken,
+        listed(&seen.refused),
+        seen.behind
+    );
+    let rare = seen.rare();
+    if total >= MANY_TEXTS && !rare.is_empty() {
         return Err(format!("no trial of what hardly came up: {}", rare.join(", ")));
     }
     Ok(())
@@ -479,6 +546,9 @@ fn main() -> ExitCode {
     }
     if outcome.is_ok() && !options.summaries.is_empty() {
         outcome = run_summaries(&options);
+    }
+    if outcome.is_ok() && !options.keys.is_empty() {
+        outcome = run_keys(&options);
     }
     match outcome {
         Ok(()) => ExitCode::SUCCESS,

@@ -1,4 +1,4 @@
--- made by tools/proof.py from answers/items/next_element (answers af65fda4e02f, proof 0bbf0cb26f43): edit that file, not this one
+-- made by tools/proof.py from answers/items/next_element (answers b8de21bd7b09, proof f84bf119bbce): edit that file, not this one
 use borrow.Author.Needs.{needs}
 use mathlib.Core.Path.{sym, ap, _∙_}
 use Rattle.reader.specs.Internal.Ahead.{markIs, onlyAt}
@@ -22,7 +22,7 @@ is-mark-requires c κs = search needs
 returns : tie.Need-returns
 returns c =
     let the-args = c .before .before .before .before .before .before .before .before .args in
-    record { is = λ tab x m. item-last (the-args .sw) (the-args .text .now) (the-args .kind) tab (the-args .from) x m (the-args .count) _ _ _ (ahead-token (the-args .sw) (the-args .text .now) (the-args .from) _ (c .before .before .before .before .before .before .before .before .pre .0) (sym (c .before .before .before .before .before .token-from .ensures) ∙ c .before .before .before .token .given .1)) (ap (markIs _) (sym (c .before .before .before .before .before .before .closer-of .ensures)) ∙ sym (c .before .is-mark .ensures) ∙ c .if1 .taken) }
+    record { is = λ tab x m. item-last (the-args .sw) (the-args .text .now) (the-args .kind) tab (the-args .from) x m _ _ _ _ (ahead-token (the-args .sw) (the-args .text .now) (the-args .from) _ (c .before .before .before .before .before .before .before .before .pre .0) (sym (c .before .before .before .before .before .token-from .ensures) ∙ c .before .before .before .token .given .1)) (ap (markIs _) (sym (c .before .before .before .before .before .before .closer-of .ensures)) ∙ sym (c .before .is-mark .ensures) ∙ c .if1 .taken) }
 
 opens-empty-requires : tie.Need-opens-empty-requires
 opens-empty-requires c κs = search needs
@@ -66,7 +66,7 @@ returns-4 c =
 returns-5 : tie.Need-returns-5
 returns-5 c =
     let the-args = c .before .before .before .before .before .before .args in
-    record { is = λ tab x m. item-none (the-args .sw) (the-args .text .now) (the-args .kind) tab (the-args .from) x m (the-args .count) _ (sym (c .before .before .before .token-from .ensures) ∙ c .before .refusal2 .given .1) }
+    record { is = λ tab x m. item-none (the-args .sw) (the-args .text .now) (the-args .kind) tab (the-args .from) x m _ _ (sym (c .before .before .before .token-from .ensures) ∙ c .before .refusal2 .given .1) }
 
 pub next-element-spec : {M : Type 1} → statement M
 next-element-spec =
