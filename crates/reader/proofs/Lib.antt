@@ -27,7 +27,9 @@ pub mod ItemRun
 pub mod KeyWalk
 pub mod DuplicateLaws
 pub mod PrefixLaws
+pub mod RouteLaws
 pub mod IndexLaws
+pub mod LookupLaws
 pub mod IndexRun
 pub mod FewRun
 pub mod RowLaws

@@ -1,11 +1,11 @@
--- made by tools/proof.py from answers/index/descend (answers 955aebdb18e9, proof b9f91b89aa1e): edit that file, not this one
+-- made by tools/proof.py from answers/index/descend (answers 41feb55c3371, proof e0855e4cc2f7): edit that file, not this one
 use borrow.Author.Needs.{needs}
 use native.Mathlib.Omega.{arith}
 use mathlib.Core.Path.{_≡_, sym, ap, _∙_, subst}
 use Prim.Native.Nat.{ℕ, _<_, _-_, _+_, _*_}
 use lib.ListN.{length, getD}
 use Rattle.reader.specs.Internal.Index.{cells}
-use Rattle.reader.proofs.IndexLaws.{Led, led-start, led-stop, led-on, miss-low}
+use Rattle.reader.proofs.RouteLaws.{Led, led-start, led-stop, led-on, miss-low}
 use Rattle.reader.proofs.index.descend.Statement.{statement}
 use Rattle.reader.proofs.index.descend.Tie as tie
 
