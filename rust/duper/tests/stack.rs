@@ -140,27 +140,32 @@ fn a_summary_of_any_length_needs_no_more() {
     });
 }
 
-#[test]
-fn a_correction_needs_256_kib_and_an_undo_128() {
-    let text = deepest();
+/// Corrects the last of so many nodes with 256 KiB, and takes that back with 128.
+fn corrects_and_undoes(text: &[u8], nodes: usize, table: Vec<u32>) {
     let used = text.len();
-    let mut buffers = (text.clone(), vec![0; 100], table());
+    let mut buffers = (text.to_vec(), vec![0; 100], table);
     buffers.0.resize(used + 100, 0);
     let (send, corrected) = std::sync::mpsc::channel();
     with_stack(256, move || {
         let (text, journal, table) = &mut buffers;
-        let answer = duper::correct(text, used, journal, 0, table, NODES - 1, b"null");
+        let answer = duper::correct(text, used, journal, 0, table, nodes - 1, b"null");
         assert_eq!(answer.outcome, Ok(()));
-        assert_eq!((answer.nodes, answer.used), (NODES, used + 3));
+        assert_eq!((answer.nodes, answer.used), (nodes, used + 3));
         send.send((buffers, answer)).expect("the test listens");
     });
     let (mut buffers, answer) = corrected.recv().expect("it was corrected");
+    let text = text.to_vec();
     with_stack(128, move || {
         let (buffer, journal, table) = &mut buffers;
         let answer = duper::undo(buffer, answer.used, journal, answer.kept, table);
         assert_eq!(answer.outcome, Ok(()));
         assert_eq!(&buffer[..answer.used], &text[..]);
     });
+}
+
+#[test]
+fn a_correction_needs_256_kib_and_an_undo_128() {
+    corrects_and_undoes(&deepest(), NODES, table());
 }
 
 /// What opens the 31 outer objects, and their count of nodes without the value that
@@ -285,24 +290,7 @@ fn an_end_in_many_keys_needs_no_more() {
 #[test]
 fn a_correction_and_an_undo_of_many_keys_need_no_more() {
     for (text, nodes) in texts_of_many() {
-        let used = text.len();
-        let mut buffers = (text.clone(), vec![0; 100], full_table());
-        buffers.0.resize(used + 100, 0);
-        let (send, corrected) = std::sync::mpsc::channel();
-        with_stack(256, move || {
-            let (text, journal, table) = &mut buffers;
-            let answer = duper::correct(text, used, journal, 0, table, nodes - 1, b"null");
-            assert_eq!(answer.outcome, Ok(()));
-            assert_eq!((answer.nodes, answer.used), (nodes, used + 3));
-            send.send((buffers, answer)).expect("the test listens");
-        });
-        let (mut buffers, answer) = corrected.recv().expect("it was corrected");
-        with_stack(128, move || {
-            let (buffer, journal, table) = &mut buffers;
-            let answer = duper::undo(buffer, answer.used, journal, answer.kept, table);
-            assert_eq!(answer.outcome, Ok(()));
-            assert_eq!(&buffer[..answer.used], &text[..]);
-        });
+        corrects_and_undoes(&text, nodes, full_table());
     }
 }
 
