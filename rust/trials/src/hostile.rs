@@ -96,9 +96,9 @@ fn all_of(length: usize) -> Vec<String> {
 }
 
 /// Contents that differ from so many times the letter a in one half of a byte. In
-/// a tree whose tests ask for one half's value each of them fails all tests there
-/// are, and adds another. Behind them come those that differ in the last byte too:
-/// the chain again, behind one of its tests.
+/// a tree whose tests ask for one bit, or for one half's value, most of them fail all
+/// tests there are, and add another. Behind them come those that differ in the last
+/// byte too: the chain again, behind one of its tests.
 fn chain(length: usize) -> Vec<String> {
     let mut all = vec!["a".repeat(length)];
     for at in (0..length).rev() {

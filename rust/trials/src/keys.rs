@@ -407,7 +407,7 @@ fn character(random: &mut Random) -> char {
 
 /// Lengths of long contents, at both sides of where a reader may go another way.
 const LENGTHS: [usize; 23] = [
-    255, 256, 257, 511, 512, 513, 1_023, 1_024, 1_025, 2_040, 2_041, 2_042, 2_043, 2_046, 2_045,
+    255, 256, 257, 511, 512, 513, 1_023, 1_024, 1_025, 2_040, 2_041, 2_042, 2_043, 2_044, 2_045,
     2_046, 2_047, 2_048, 2_049, 2_050, 4_095, 4_096, 4_097,
 ];
 
