@@ -183,7 +183,7 @@ fn differing_bit(own: u8, other: u8) -> usize
 
 // A test of byte i that `own` passes and `other`, which is another byte, does not.
 fn test_of(i: usize, own: u8, other: u8) -> u16
-    requires { ⌜ i < 2048 ⌝ }
+    requires { ⌜ i < keyBytes ⌝ }
     ensures { λ r. ⌜ TellsBy i own other r ⌝ }
 {
     let bit = differing_bit(own, other);

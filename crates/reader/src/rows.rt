@@ -1,7 +1,7 @@
 // The rows of the table.
 ghost use mathlib.Core.Path.{_≡_};
 ghost use Prim.Native.Nat.{_≤_, _<_, _+_, _*_};
-ghost use lib.ListN.{length, getD, set, replicate};
+ghost use lib.ListN.{length, set, replicate};
 ghost use lib.Seq.{sets};
 ghost use Rattle.reader.specs.Tree.{kindNumber, nodeWords};
 ghost use Rattle.reader.specs.Reading.{wordOf};
