@@ -53,7 +53,7 @@ fn second(key: &[u8], text: &[u8], at: usize)
 }
 
 // The first two tokens of a text.
-pub fn compare(text: &[u8]) {
+pub(crate) fn compare(text: &[u8]) {
     match next_token(present(), text, 0) {
         Next::Token(token) => {
             if is_key(token) {

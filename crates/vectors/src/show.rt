@@ -2,12 +2,12 @@
 use lexer::item::TokenKind;
 use libc::STDOUT_FILENO;
 
-pub fn line(s: &[u8]) {
+pub(crate) fn line(s: &[u8]) {
     io::write_all(STDOUT_FILENO, s);
     io::write_all(STDOUT_FILENO, b"\n");
 }
 
-pub fn front(n: usize, eights: usize) {
+pub(crate) fn front(n: usize, eights: usize) {
     io::write_all(STDOUT_FILENO, b"front ");
     io::print_decimal(STDOUT_FILENO, n as u64);
     io::write_all(STDOUT_FILENO, b" eights ");
@@ -15,13 +15,13 @@ pub fn front(n: usize, eights: usize) {
     io::write_all(STDOUT_FILENO, b"\n");
 }
 
-pub fn end(place: usize) {
+pub(crate) fn end(place: usize) {
     io::write_all(STDOUT_FILENO, b"end ");
     io::print_decimal(STDOUT_FILENO, place as u64);
     io::write_all(STDOUT_FILENO, b"\n");
 }
 
-pub fn refused(number: u8, place: usize) {
+pub(crate) fn refused(number: u8, place: usize) {
     io::write_all(STDOUT_FILENO, b"refused ");
     io::print_decimal(STDOUT_FILENO, number as u64);
     io::write_all(STDOUT_FILENO, b" ");
@@ -84,7 +84,7 @@ fn content(token: &[u8]) {
 }
 
 // A token of this kind and these bytes, by its form and value.
-pub fn token(kind: TokenKind, bytes: &[u8]) {
+pub(crate) fn token(kind: TokenKind, bytes: &[u8]) {
     match kind {
         TokenKind::Mark(_) => {
             io::write_all(STDOUT_FILENO, b"mark ");
@@ -121,7 +121,7 @@ fn decimal(minus: bool, m: u64, p: i64) {
     signed(p);
 }
 
-pub fn places(start: usize, end: usize) {
+pub(crate) fn places(start: usize, end: usize) {
     io::write_all(STDOUT_FILENO, b" ");
     io::print_decimal(STDOUT_FILENO, start as u64);
     io::write_all(STDOUT_FILENO, b" ");

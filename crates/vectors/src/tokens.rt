@@ -2,7 +2,7 @@
 use lexer::item::Next;
 use lexer::item::next_token;
 
-pub fn tokens(text: &[u8]) {
+pub(crate) fn tokens(text: &[u8]) {
     let sw = text::switches::present();
     let mut at = 0;
     while at <= text.len() {
