@@ -18,7 +18,6 @@ use editor::change::Verdict;
 use path::find::Found;
 use reader::content::Given;
 use reader::read::Reading;
-use summary::summary::Counts;
 use summary::summary::Summary;
 use text::refusal::Refusal;
 use text::utf8::check_utf8;

@@ -1,11 +1,11 @@
 -- A content written in one go: what the loop of `copy_content` knows.
 -- Assumes nothing.
-use mathlib.Core.Path.{_≡_, refl, sym, ap, _∙_, subst}
+use mathlib.Core.Path.{_≡_, refl, sym, ap, _∙_}
 use Prim.Native.Nat.{ℕ, _+_, _-_, _<_, _≤_}
 use native.Mathlib.Omega.{arith}
 use mathlib.Core.Bool.{Bool, true, false, cond, false≢true}
 use mathlib.Core.Option.{Option, none, some}
-use mathlib.Core.List.{List, [], _∷_, _++_, append-nil}
+use mathlib.Core.List.{List, [], _++_, append-nil}
 use lib.ListN.{length, take, drop, getD, length-append, length-drop, drop-of-length-le}
 use lib.Seq.{sets, length-sets, length-take-le, drop-append-le}
 use Rattle.text.specs.declared.switches.Switches.{Switches}
@@ -17,7 +17,7 @@ use Rattle.literals.specs.declared.decoder.Decoder.{Decoder}
 use Rattle.literals.specs.declared.decoder.Decoder.the-variants.{Plain, Verbatim, Letters}
 use Rattle.literals.specs.declared.decoder.Decoded.{Decoded}
 use Rattle.literals.specs.Content.{gives, decodeStep, mayEnd, prepend, decoded, startOf, content}
-use Rattle.literals.specs.InternalContent.{Sound, PlainByte, OwnByteIf, CopiedAs, Copied}
+use Rattle.literals.specs.InternalContent.{Sound, PlainByte, OwnByteIf, Copied}
 use Rattle.literals.proofs.StepLaws.{good-next, decoded-turn, decoded-end}
 use Rattle.literals.proofs.TallyLaws.{start-sound}
 use Rattle.literals.proofs.PlainLaws.{quoted-plain, raw-plain, word-plain}

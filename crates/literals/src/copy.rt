@@ -1,6 +1,5 @@
 // The content of a string or key that is known to have one, written in one go: nothing is measured before, and bytes that stand for
 // themselves do not go through the decoder.
-ghost use mathlib.Core.Path.{_≡_};
 ghost use Prim.Native.Nat.{_≤_};
 ghost use lib.ListN.{length};
 ghost use Rattle.literals.specs.Content.{content};

@@ -3,19 +3,20 @@
 use mathlib.Core.Path.{_≡_, refl, ap, sym, subst, _∙_}
 use mathlib.Core.List.{List, [], _∷_, _++_}
 use mathlib.Core.Option.{Option, none}
-use mathlib.Core.Bool.{Bool, true, false, _&&_, true≢false}
+use mathlib.Core.Bool.{Bool, true, false, cond, _&&_, true≢false}
 use Prim.Native.Nat.{ℕ, suc, _+_, _*_, _<_, _≤_}
 use native.Mathlib.Numerals.{add-one}
 use native.Mathlib.Omega.{arith}
 use lib.Dec.{leb}
 use lib.ListN.{length, getD}
 use lib.Seq.{sets}
-use borrow.Author.Tests.{ne-eqb, le-leb, lt-leb, leb-false}
+use borrow.Author.Tests.{ne-eqb, le-leb, lt-leb, leb-true, leb-false}
 use Rattle.text.specs.declared.switches.Switches.{Switches}
 use Rattle.lexer.specs.declared.item.TokenKind.{TokenKind}
 use Rattle.reader.specs.declared.tree.Kind.{Kind}
 use Rattle.reader.specs.declared.tree.Limits.{Limits}
 use Rattle.text.specs.declared.refusal.Refusal.{Refusal}
+use Rattle.text.specs.Refusal.{refusal}
 use Rattle.reader.specs.declared.tree.Rules.{Rules}
 use Rattle.reader.specs.declared.tree.Children.{Children}
 use Rattle.reader.specs.declared.tree.Due.{Due}
@@ -29,10 +30,10 @@ use Rattle.reader.specs.declared.duplicates.Duplicate.the-variants as D
 use Rattle.reader.specs.declared.values.Progress.{Progress}
 use Rattle.reader.specs.declared.values.Progress.the-variants as A
 use Rattle.reader.specs.Tree.{Span, branch, Forest, nil, snoc, count, size, sizes, headOf, rows, rowsAll, nodeWords}
-use Rattle.reader.specs.Reading.{maxText, maxNodes}
+use Rattle.reader.specs.Reading.{maxNodes}
 use Rattle.reader.specs.Syntax.{Label, label, Frame, frame, Slot, after, Mode, value, Config, config, refuseIf, Begins, container, isObject, headBy, ended, finished, noNode, counted, valueStep, Outcome, refused, afterStep}
 use Rattle.reader.specs.Internal.Tokens.{beginsAt}
-use Rattle.reader.specs.Internal.Values.{spanAt, labelOf, SpansApart, freshDue, runFrom, nodesAt, opened, openedHere, KeyAt, SiblingKeys, duplicateIn, keyDuplicate, unlessDuplicate, placeOf, turnOf, innerAt, Known, Look, Valued, Ends, Refuses, ItemIs, ChildAt, Ready, Roomy, ValueRead, ValueRefused, ProgressIs, openedBy, ReadAs, Keys, FirstDuplicate, RefusedLate, ChildRefusedLate, branchProgress, branchTable, BranchEnded}
+use Rattle.reader.specs.Internal.Values.{spanAt, labelOf, SpansApart, freshDue, noChildren, runFrom, nodesAt, opened, openedHere, KeyAt, SiblingKeys, duplicateIn, keyDuplicate, unlessDuplicate, placeOf, turnOf, innerAt, Known, Valued, Ends, Refuses, RefusesAfter, ItemIs, ChildAt, Ready, Placed, Roomy, isFull, openingRefusal, ValueRead, ValueRefused, ProgressIs, openedBy, ReadAs, Keys, FirstDuplicate, RefusedLate, RefusedLateAfter, branchProgress, branchTable, BranchEnded}
 use Rattle.reader.proofs.SizeLaws.{sizes-snoc, count-snoc}
 use Rattle.text.proofs.ListLaws.{getD-before-sets}
 use Rattle.reader.proofs.KeyWalk.{siblings-more}
@@ -72,20 +73,18 @@ module _ {rules : Rules} {s : List ℕ} {due : Due} {p : CS.Span} {b : Begins} {
   pub begins-as : {other : Begins} → other ≡ b → ReadAs rules s due p b tin tout r → ReadAs rules s due p other tin tout r
   begins-as e h = subst (λ (x : Begins). ReadAs rules s due p x tin tout r) (sym e) h
 
-module _ {sw : Switches} {s : List ℕ} {kind : Kind} {tab : List ℕ} {c : Children} {i : ℕ} {r : Item} where
-  pub value-is : {x : ℕ} {t : CT.Token} {key : CS.Span} → c .first ≡ x → r ≡ I.Value t key → ChildAt sw s kind tab c i r
-      → Valued sw s kind tab i x (c .next) (turnOf (c .count)) (t .kind) (t .span .start) (t .span .stop) (key .start) (key .stop)
-  value-is {x} {t} {key} f e h =
-      subst (λ (y : ℕ). Valued sw s kind tab i y (c .next) (turnOf (c .count)) (t .kind) (t .span .start) (t .span .stop) (key .start) (key .stop)) f
-      (subst (ItemIs sw s kind tab i (c .first) (c .next) (turnOf (c .count))) e (h .is))
+module _ {sw : Switches} {s : List ℕ} {kind : Kind} {z i : ℕ} {r : Item} where
+  pub value-is : {t : CT.Token} {key : CS.Span} → r ≡ I.Value t key → ChildAt sw s kind z i r → Valued sw s kind i (turnOf z) (t .kind) (t .span .start) (t .span .stop) (key .start) (key .stop)
+  value-is e h = subst (ItemIs sw s kind i (turnOf z)) e (h .is)
 
-  pub last-is : {x j : ℕ} → c .first ≡ x → r ≡ I.Last j → ChildAt sw s kind tab c i r → Ends sw s kind tab i x (c .next) (turnOf (c .count)) j
-  last-is {x} {j} f e h =
-      subst (λ (y : ℕ). Ends sw s kind tab i y (c .next) (turnOf (c .count)) j) f (subst (ItemIs sw s kind tab i (c .first) (c .next) (turnOf (c .count))) e (h .is))
+  pub last-is : {j : ℕ} → r ≡ I.Last j → ChildAt sw s kind z i r → Ends sw s kind i (turnOf z) j
+  last-is e h = subst (ItemIs sw s kind i (turnOf z)) e (h .is)
 
-  pub item-refused : {x : ℕ} {f : Refusal} → c .first ≡ x → r ≡ I.Refused f → ChildAt sw s kind tab c i r → Refuses sw s kind tab i x (c .next) (turnOf (c .count)) (f .number) (f .place)
-  item-refused {x} {f} q e h =
-      subst (λ (y : ℕ). Refuses sw s kind tab i y (c .next) (turnOf (c .count)) (f .number) (f .place)) q (subst (ItemIs sw s kind tab i (c .first) (c .next) (turnOf (c .count))) e (h .is))
+  pub item-refused : {f : Refusal} → r ≡ I.Refused f → ChildAt sw s kind z i r → Refuses sw s kind i (turnOf z) (f .number) (f .place)
+  item-refused e h = subst (ItemIs sw s kind i (turnOf z)) e (h .is)
+
+  pub field-refused : {key : CS.Span} {f : Refusal} → r ≡ I.RefusedAfter key f → ChildAt sw s kind z i r → RefusesAfter sw s kind i (turnOf z) (f .number) (f .place) (key .start) (key .stop)
+  field-refused e h = subst (ItemIs sw s kind i (turnOf z)) e (h .is)
 
 -- ---- a value that is due afresh
 
@@ -123,10 +122,10 @@ module _ {sw : Switches} {s : List ℕ} {kind : Kind} {tab : List ℕ} {c : Chil
   late-from {f} {r} L ks =
       subst (λ (y : ℕ). Known sw s kind tab y (c .next) ks → refused (r .number) (r .place) ≡ unlessDuplicate (duplicateIn kind tab y ks) (refused (f .number) (f .place))) e (L .is ks)
 
-  child-late-from : {key : CS.Span} {f r : Refusal} → ChildRefusedLate sw s kind tab c key f r → (ks : List (List ℕ)) → Known sw s kind tab x (c .next) ks
+  late-after-from : {key : CS.Span} {f r : Refusal} → RefusedLateAfter sw s kind tab c key f r → (ks : List (List ℕ)) → Known sw s kind tab x (c .next) ks
       → (w : List ℕ) → (isObject kind ≡ true → KeyAt sw s (key .start) (key .stop) w)
       → refused (r .number) (r .place) ≡ unlessDuplicate (duplicateIn kind tab x ks) (unlessDuplicate (keyDuplicate kind (key .start) ks w) (refused (f .number) (f .place)))
-  child-late-from {key} {f} {r} L ks =
+  late-after-from {key} {f} {r} L ks =
       subst (λ (y : ℕ). Known sw s kind tab y (c .next) ks → (w : List ℕ) → (isObject kind ≡ true → KeyAt sw s (key .start) (key .stop) w) → refused (r .number) (r .place) ≡ unlessDuplicate (duplicateIn kind tab y ks) (unlessDuplicate (keyDuplicate kind (key .start) ks w) (refused (f .number) (f .place)))) e (L .is ks)
 
 -- ---- the loop
@@ -144,14 +143,9 @@ module _ {sw : Switches} {limits : Limits} {s : List ℕ} {kind : Kind} {l : Lab
   body-kept {ts} B x h =
       ap (λ (u : List ℕ). getD u x 0) (B .wrote) ∙ getD-before-sets (rowsAll n (n + 1) ts) tin x (nodeWords * (n + 1)) (omega arith)
 
-  pub body-look : {ts : Forest} {ks : List (List ℕ)} {i : ℕ} {tab : List ℕ} {c : Children} → c .first ≡ n + 1 → length s ≤ maxText
-      → Within sw limits s kind l ω o d n tin ts ks i (c .next) (c .count) tab → Look sw s kind tab c i
-  body-look {ts} {ks} {i} {tab} {c} e h B =
-      record { inside = B .inside; short = h; siblings = λ q. record { keys = ks; siblings = subst (λ (x : ℕ). SiblingKeys sw s tab x (c .next) ks) (sym e) (B .siblings q) } }
-
   -- a child was read
   pub body-value : {ts : Forest} {ks : List (List ℕ)} {i m z : ℕ} {tab : List ℕ} {k : TokenKind} {start stop a b : ℕ} {out : List ℕ} {j e : ℕ}
-      → Within sw limits s kind l ω o d n tin ts ks i m z tab → (I : Valued sw s kind tab i (n + 1) m (turnOf z) k start stop a b)
+      → Within sw limits s kind l ω o d n tin ts ks i m z tab → (I : Valued sw s kind i (turnOf z) k start stop a b)
       → (T : ValueRead sw limits s (openedHere sw limits s start stop true (spanAt a b) m) (label start (spanAt a b) none) start (d + 1) n m tab out j e) → length out ≡ length tab
       → Within sw limits s kind l ω o d n tin (snoc ts (T .tree)) (I .keys ks) j e (z + 1) out
   unfolding ended finished
@@ -185,7 +179,7 @@ module _ {sw : Switches} {limits : Limits} {s : List ℕ} {kind : Kind} {l : Lab
             λ stack h.
             let u : suc (length stack) ≡ d + 1 = omega arith in
             B .ran stack h
-            ∙ ap (unlessDuplicate (duplicateIn kind tab (n + 1) ks)) (I .ran limits l ts ks stack (known B) ∙ ap (unlessDuplicate (keyDuplicate kind a ks (I .content))) (T .ran (frame kind l ts (I .keys ks) ∷ stack) u))
+            ∙ ap (unlessDuplicate (duplicateIn kind tab (n + 1) ks)) (I .ran limits l ts ks stack m ∙ ap (unlessDuplicate (keyDuplicate kind a ks (I .content))) (T .ran (frame kind l ts (I .keys ks) ∷ stack) u))
             ∙ sym (unless-sooner (duplicateIn kind tab (n + 1) ks) (keyDuplicate kind a ks (I .content)) (runFrom sw limits s j (innerAt kind l (snoc ts (T .tree)) (I .keys ks) stack e after)))
             ∙ ap (λ (q : Option ℕ). unlessDuplicate q (runFrom sw limits s j (innerAt kind l (snoc ts (T .tree)) (I .keys ks) stack e after)))
             (sym (duplicate-in-more sw s tab out m (m + size (T .tree)) a b (I .content)
@@ -197,7 +191,7 @@ module _ {sw : Switches} {limits : Limits} {s : List ℕ} {kind : Kind} {l : Lab
 
   -- the container's end
   pub body-last : {ts : Forest} {ks : List (List ℕ)} {i m z : ℕ} {tab : List ℕ} {j : ℕ}
-      → Within sw limits s kind l ω o d n tin ts ks i m z tab → Ends sw s kind tab i (n + 1) m (turnOf z) j
+      → Within sw limits s kind l ω o d n tin ts ks i m z tab → Ends sw s kind i (turnOf z) j
       → Body sw limits s kind l ω o d n tin ts ks (λ stack. ended stack m (l .name) (branch (headBy l j) kind ts)) j m z tab
   body-last {ts} {ks} {i} {m} {z} {tab} {j} B I =
       record {
@@ -211,7 +205,7 @@ module _ {sw : Switches} {limits : Limits} {s : List ℕ} {kind : Kind} {l : Lab
         long = B .long;
         wrote = B .wrote;
         siblings = B .siblings;
-        ran = λ stack h. B .ran stack h ∙ ap (unlessDuplicate (duplicateIn kind tab (n + 1) ks)) (I .ran limits l ts ks stack (known B));
+        ran = λ stack h. B .ran stack h ∙ ap (unlessDuplicate (duplicateIn kind tab (n + 1) ks)) (I .ran limits l ts ks stack m);
       }
 
   -- what a search for its duplicate keys is handed
@@ -225,11 +219,24 @@ module _ {sw : Switches} {limits : Limits} {s : List ℕ} {kind : Kind} {l : Lab
       }
 
   pub body-item-refused : {ts : Forest} {ks : List (List ℕ)} {i : ℕ} {tab : List ℕ} {c : Children} {f r : Refusal} → c .first ≡ n + 1
-      → Within sw limits s kind l ω o d n tin ts ks i (c .next) (c .count) tab → Refuses sw s kind tab i (n + 1) (c .next) (turnOf (c .count)) (f .number) (f .place) → RefusedLate sw s kind tab c f r
+      → Within sw limits s kind l ω o d n tin ts ks i (c .next) (c .count) tab → Refuses sw s kind i (turnOf (c .count)) (f .number) (f .place) → RefusedLate sw s kind tab c f r
       → ValueRefused ω d n tin tab (r .number) (r .place)
-  body-item-refused {ts} {ks} {i} {tab} e B I L =
+  body-item-refused {ts} {ks} {i} {tab} {c} e B I L =
       record {
-        ran = λ stack h. B .ran stack h ∙ ap (unlessDuplicate (duplicateIn kind tab (n + 1) ks)) (I .ran limits l ts ks stack (known B)) ∙ sym (late-from e L ks (known B));
+        ran = λ stack h. B .ran stack h ∙ ap (unlessDuplicate (duplicateIn kind tab (n + 1) ks)) (I .ran limits l ts ks stack (c .next)) ∙ sym (late-from e L ks (known B));
+        kept = body-kept B;
+      }
+
+  pub body-field-refused : {ts : Forest} {ks : List (List ℕ)} {i : ℕ} {tab : List ℕ} {c : Children} {key : CS.Span} {f r : Refusal} → c .first ≡ n + 1
+      → Within sw limits s kind l ω o d n tin ts ks i (c .next) (c .count) tab → RefusesAfter sw s kind i (turnOf (c .count)) (f .number) (f .place) (key .start) (key .stop)
+      → RefusedLateAfter sw s kind tab c key f r → ValueRefused ω d n tin tab (r .number) (r .place)
+  body-field-refused {ts} {ks} {i} {tab} {c} e B I L =
+      record {
+        ran =
+            λ stack h.
+            B .ran stack h
+            ∙ ap (unlessDuplicate (duplicateIn kind tab (n + 1) ks)) (I .ran limits l ts ks stack (c .next))
+            ∙ sym (late-after-from e L ks (known B) (I .content) (λ _. I .key));
         kept = body-kept B;
       }
 
@@ -250,9 +257,9 @@ module _ {sw : Switches} {limits : Limits} {s : List ℕ} {kind : Kind} {l : Lab
       }
 
   pub body-child-refused : {ts : Forest} {ks : List (List ℕ)} {i : ℕ} {tab out : List ℕ} {c : Children} {k : TokenKind} {start stop : ℕ} {key : CS.Span} {f r : Refusal} → c .first ≡ n + 1
-      → Within sw limits s kind l ω o d n tin ts ks i (c .next) (c .count) tab → Valued sw s kind tab i (n + 1) (c .next) (turnOf (c .count)) k start stop (key .start) (key .stop)
+      → Within sw limits s kind l ω o d n tin ts ks i (c .next) (c .count) tab → Valued sw s kind i (turnOf (c .count)) k start stop (key .start) (key .stop)
       → ValueRefused (openedHere sw limits s start stop true (spanAt (key .start) (key .stop)) (c .next)) (d + 1) (c .next) tab out (f .number) (f .place) → length out ≡ length tab
-      → ChildRefusedLate sw s kind out c key f r → ValueRefused ω d n tin out (r .number) (r .place)
+      → RefusedLateAfter sw s kind out c key f r → ValueRefused ω d n tin out (r .number) (r .place)
   body-child-refused {ts} {ks} {i} {tab} {out} {c} {k} {start} {stop} {key} {f} {r} e B I T long L =
       record {
         kept = λ x h. T .kept x (omega (arith, B .grew)) ∙ body-kept B x h;
@@ -261,10 +268,10 @@ module _ {sw : Switches} {limits : Limits} {s : List ℕ} {kind : Kind} {l : Lab
             let u : suc (length stack) ≡ d + 1 = omega arith in
             B .ran stack h
             ∙ ap (unlessDuplicate (duplicateIn kind tab (n + 1) ks))
-            (I .ran limits l ts ks stack (known B) ∙ ap (unlessDuplicate (keyDuplicate kind (key .start) ks (I .content))) (T .ran (frame kind l ts (I .keys ks) ∷ stack) u))
+            (I .ran limits l ts ks stack (c .next) ∙ ap (unlessDuplicate (keyDuplicate kind (key .start) ks (I .content))) (T .ran (frame kind l ts (I .keys ks) ∷ stack) u))
             ∙ ap (λ (q : Option ℕ). unlessDuplicate q (unlessDuplicate (keyDuplicate kind (key .start) ks (I .content)) (refused (f .number) (f .place))))
             (sym (duplicate-in-kept sw s tab out (c .next) (T .kept) long kind (n + 1) ks (B .siblings)))
-            ∙ sym (child-late-from e L ks (record { siblings = λ q. siblings-kept sw s tab out (c .next) (T .kept) long (n + 1) ks (B .siblings q) }) (I .content) (I .key));
+            ∙ sym (late-after-from e L ks (record { siblings = λ q. siblings-kept sw s tab out (c .next) (T .kept) long (n + 1) ks (B .siblings q) }) (I .content) (I .key));
       }
 
 -- the container's end: its row is written, or a key is a duplicate
@@ -325,46 +332,84 @@ pub node-left : (nodes : ℕ) (fresh : Bool) (n : ℕ) → (fresh && leb nodes n
 node-left nodes true n e h = leb-false nodes n e
 node-left nodes false n e h = h refl
 
-module _ (sw : Switches) (limits : Limits) (s : List ℕ) (start stop : ℕ) (fresh any : Bool) (l : Label) (n d : ℕ) (kind : Kind) where
-  pub open-deep : limits .depth ≤ d → (tab : List ℕ) → ValueRefused (opened sw limits s start stop fresh any l n (container kind)) d n tab tab 9 start
+-- a container that is due is not refused where it opens
+pub record Opens (limits : Limits) (due : Due) : Type 0 where
+  pub shallow : due .spot .depth < limits .depth
+  pub roomy : isFull limits due ≡ false
+
+pub opens : {limits : Limits} {due : Due} {number : ℕ} → number ≡ openingRefusal limits due → number ≡ 0 → Opens limits due
+opens {limits} {due} {number} e z = by (leb (limits .depth) (due .spot .depth)) (isFull limits due) refl refl e
+  where
+    by : (deep full : Bool) → leb (limits .depth) (due .spot .depth) ≡ deep → isFull limits due ≡ full → number ≡ cond deep 9 (cond full 10 0) → Opens limits due
+    by true full p q h = absurd (omega arith)
+    by false true p q h = absurd (omega arith)
+    by false false p q h = record { shallow = leb-false (limits .depth) (due .spot .depth) p; roomy = q }
+
+pub opens-node : {limits : Limits} {due : Due} {tab : List ℕ} → Opens limits due → Ready limits tab due → due .spot .node < limits .nodes
+opens-node {limits} {due} o R = node-left (limits .nodes) (due .fresh) (due .spot .node) (o .roomy) (R .counted)
+
+module _ (rules : Rules) (s : List ℕ) (due : Due) (bracket : CS.Span) (kind : Kind) (tab : List ℕ) where
+  abbrev OpenRefused : ℕ → Type 0
+  OpenRefused number = ValueRefused (openedBy rules s due bracket (container kind)) (due .spot .depth) (due .spot .node) tab tab number (bracket .start)
+
+  open-deep : rules .limits .depth ≤ due .spot .depth → OpenRefused 9
   unfolding opened valueStep refuseIf afterStep
-  open-deep h tab =
+  open-deep h =
       record {
         kept = λ x g. refl;
         ran =
             λ stack e.
-            let g : limits .depth ≤ length stack = omega arith in
-            rw (le-leb (limits .depth) (length stack) g);
+            let g : rules .limits .depth ≤ length stack = omega arith in
+            rw (le-leb (rules .limits .depth) (length stack) g);
       }
 
-  pub open-full : d < limits .depth → (fresh && leb (limits .nodes) n) ≡ true → (tab : List ℕ) → ValueRefused (opened sw limits s start stop fresh any l n (container kind)) d n tab tab 10 start
+  open-full : due .spot .depth < rules .limits .depth → isFull (rules .limits) due ≡ true → OpenRefused 10
   unfolding opened valueStep refuseIf afterStep
-  open-full h f tab =
+  open-full h f =
       record {
         kept = λ x g. refl;
         ran =
             λ stack e.
-            let g : length stack < limits .depth = omega arith in
-            rw (lt-leb (limits .depth) (length stack) g, no-node limits stack (value any none) fresh n, f);
+            let g : length stack < rules .limits .depth = omega arith in
+            rw (lt-leb (rules .limits .depth) (length stack) g, no-node (rules .limits) stack (value (due .any) none) (due .fresh) (due .spot .node), f);
       }
 
-  pub body-start : (tin : List ℕ) → d < limits .depth → (fresh && leb (limits .nodes) n) ≡ false → n < limits .nodes → start < stop → stop ≤ length s → nodeWords * limits .nodes ≤ length tin
-      → Within sw limits s kind l (opened sw limits s start stop fresh any l n (container kind)) start d n tin nil [] stop (n + 1) 0 tin
+  pub opens-not : {number : ℕ} → number ≡ openingRefusal (rules .limits) due → (number ≡ 0 → ⊥) → ReadAs rules s due bracket (container kind) tab tab (A.Refused (refusal number (bracket .start)))
+  opens-not {number} e some = record { is = by (leb (rules .limits .depth) (due .spot .depth)) (isFull (rules .limits) due) refl refl e }
+    where
+      by : (deep full : Bool) → leb (rules .limits .depth) (due .spot .depth) ≡ deep → isFull (rules .limits) due ≡ full → number ≡ cond deep 9 (cond full 10 0)
+          → OpenRefused number
+      by true full p q h = subst OpenRefused (sym h) (open-deep (leb-true (rules .limits .depth) (due .spot .depth) p))
+      by false true p q h = subst OpenRefused (sym h) (open-full (leb-false (rules .limits .depth) (due .spot .depth) p) q)
+      by false false p q h = absurd (some h)
+
+  start-none : Opens (rules .limits) due → Ready (rules .limits) tab due → Placed s bracket
+      → Within (rules .sw) (rules .limits) s kind (labelOf (due .label)) (openedBy rules s due bracket (container kind)) (bracket .start) (due .spot .depth) (due .spot .node) tab nil [] (bracket .stop) (due .spot .node + 1) 0 tab
   unfolding opened valueStep refuseIf afterStep count sizes rowsAll unlessDuplicate
-  body-start tin h f r o i w =
+  start-none o R P =
       record {
         counted = refl;
         grew = omega arith;
         few = omega arith;
-        below = omega arith;
-        ahead = o;
-        inside = i;
-        room = w;
+        below = let h = opens-node o R in omega arith;
+        ahead = P .ordered;
+        inside = P .inside;
+        room = R .table .room;
         long = refl;
         wrote = refl;
         siblings = λ _. refl;
         ran =
             λ stack e.
-            let g : length stack < limits .depth = omega arith in
-            rw (duplicate-in-none kind tin (n + 1), lt-leb (limits .depth) (length stack) g, no-node limits stack (value any none) fresh n, f, count-one limits stack (value any none) fresh n);
+            let h = o .shallow in
+            let g : length stack < rules .limits .depth = omega arith in
+            rw (duplicate-in-none kind tab (due .spot .node + 1), lt-leb (rules .limits .depth) (length stack) g, no-node (rules .limits) stack (value (due .any) none) (due .fresh) (due .spot .node), o .roomy, count-one (rules .limits) stack (value (due .any) none) (due .fresh) (due .spot .node));
       }
+
+  pub body-start : {c : Children} → c ≡ noChildren (due .spot .node + 1) → Opens (rules .limits) due → Ready (rules .limits) tab due → Placed s bracket
+      → Within (rules .sw) (rules .limits) s kind (labelOf (due .label)) (openedBy rules s due bracket (container kind)) (bracket .start) (due .spot .depth) (due .spot .node) tab nil [] (bracket .stop) (c .next) (c .count) tab
+  body-start e o R P =
+      subst (λ (c : Children). Within (rules .sw) (rules .limits) s kind (labelOf (due .label)) (openedBy rules s due bracket (container kind)) (bracket .start) (due .spot .depth) (due .spot .node) tab nil [] (bracket .stop) (c .next) (c .count) tab)
+      (sym e) (start-none o R P)
+
+pub first-is : {c : Children} {node : ℕ} → c ≡ noChildren node → c .first ≡ node
+first-is e = ap (λ (c : Children). c .first) e

@@ -18,7 +18,7 @@ use Rattle.reader.specs.declared.duplicates.Duplicate.the-variants as D
 use Rattle.reader.specs.Tree.{nodeWords}
 use Rattle.reader.specs.Reading.{wordOf}
 use Rattle.reader.specs.Syntax.{Outcome, refused, isObject, holds}
-use Rattle.reader.specs.Internal.Values.{KeyAt, KeyHere, Link, SiblingKeys, HaveKeys, FoundKey, duplicate, duplicateIn, keyDuplicate, unlessDuplicate, placeOf, DuplicateAt, KeyRefused, FirstDuplicate, RefusedLate, ChildRefusedLate}
+use Rattle.reader.specs.Internal.Values.{KeyAt, KeyHere, Link, SiblingKeys, HaveKeys, FoundKey, duplicate, duplicateIn, keyDuplicate, unlessDuplicate, placeOf, DuplicateAt, KeyRefused, FirstDuplicate, RefusedLate, RefusedLateAfter}
 use Rattle.reader.proofs.KeyWalk.{RowSays, key-unique, chain-unique, siblings-more}
 
 -- ---- the walk over an object's keys
@@ -234,9 +234,9 @@ module _ {sw : Switches} {s : List ℕ} {kind : Kind} {tab : List ℕ} {c : Chil
     unfolding unlessDuplicate placeOf
     late-not {f} e = record { is = λ ks K. ap (λ (o : Option ℕ). unlessDuplicate o (refused (f .number) (f .place))) (ap placeOf (sym e) ∙ F .is ks K) }
 
-    pub child-late-at : {key : CS.Span} {f : Refusal} {place : ℕ} → r ≡ D.At place → ChildRefusedLate sw s kind tab c key f (record { number = 8; place = place })
+    pub late-after-at : {key : CS.Span} {f : Refusal} {place : ℕ} → r ≡ D.At place → RefusedLateAfter sw s kind tab c key f (record { number = 8; place = place })
     unfolding unlessDuplicate placeOf
-    child-late-at {key} {f} {place} e =
+    late-after-at {key} {f} {place} e =
         record {
           is =
               λ ks K w k.
@@ -244,12 +244,12 @@ module _ {sw : Switches} {s : List ℕ} {kind : Kind} {tab : List ℕ} {c : Chil
         }
 
     -- the key itself is judged where it has none before it
-    child-late-not : {key : CS.Span} {f q : Refusal} → r ≡ D.Nowhere
+    late-after-not : {key : CS.Span} {f q : Refusal} → r ≡ D.Nowhere
         → ((ks : List (List ℕ)) → (isObject kind ≡ true → SiblingKeys sw s tab (c .first) (c .next) ks) → (w : List ℕ) → (isObject kind ≡ true → KeyAt sw s (key .start) (key .stop) w)
         → refused (q .number) (q .place) ≡ unlessDuplicate (keyDuplicate kind (key .start) ks w) (refused (f .number) (f .place)))
-        → ChildRefusedLate sw s kind tab c key f q
+        → RefusedLateAfter sw s kind tab c key f q
     unfolding unlessDuplicate placeOf
-    child-late-not {key} {f} {q} e g =
+    late-after-not {key} {f} {q} e g =
         record {
           is =
               λ ks K w k.
@@ -257,12 +257,12 @@ module _ {sw : Switches} {s : List ℕ} {kind : Kind} {tab : List ℕ} {c : Chil
               ∙ ap (λ (o : Option ℕ). unlessDuplicate o (unlessDuplicate (keyDuplicate kind (key .start) ks w) (refused (f .number) (f .place)))) (ap placeOf (sym e) ∙ F .is ks K);
         }
 
-    pub child-late-key : {key : CS.Span} {f q : Refusal} → r ≡ D.Nowhere → kind ≡ Object → KeyRefused sw s tab (c .first) (c .next) (key .start) (key .stop) f q → ChildRefusedLate sw s kind tab c key f q
-    child-late-key {key} {f} {q} e o H =
+    pub late-after-key : {key : CS.Span} {f q : Refusal} → r ≡ D.Nowhere → kind ≡ Object → KeyRefused sw s tab (c .first) (c .next) (key .start) (key .stop) f q → RefusedLateAfter sw s kind tab c key f q
+    late-after-key {key} {f} {q} e o H =
         let y = ap isObject o in
-        child-late-not {key = key} {f = f} {q = q} e
+        late-after-not {key = key} {f = f} {q = q} e
         (λ ks C w k. H .is w (k y) ks (C y) ∙ ap (λ (j : Kind). unlessDuplicate (keyDuplicate j (key .start) ks w) (refused (f .number) (f .place))) (sym o))
 
-    pub child-late-other : {key : CS.Span} {f : Refusal} → r ≡ D.Nowhere → isObject kind ≡ false → ChildRefusedLate sw s kind tab c key f f
+    pub late-after-other : {key : CS.Span} {f : Refusal} → r ≡ D.Nowhere → isObject kind ≡ false → RefusedLateAfter sw s kind tab c key f f
     unfolding unlessDuplicate keyDuplicate
-    child-late-other {key} {f} e o = child-late-not {key = key} {f = f} {q = f} e (λ ks C w k. rw o refl)
+    late-after-other {key} {f} e o = late-after-not {key = key} {f = f} {q = f} e (λ ks C w k. rw o refl)

@@ -5,7 +5,7 @@ use Prim.Native.Nat.{ℕ, zero, suc, _+_, _-_, _<_, _≤_}
 use native.Mathlib.Omega.{arith}
 use mathlib.Core.Bool.{Bool, true, false, _||_}
 use mathlib.Core.List.{List, [], _∷_, _++_}
-use lib.ListN.{length, getD, set, take, drop, length-set, length-append}
+use lib.ListN.{length, getD, set, take, drop, length-set}
 use lib.Seq.{take-take, take-nil, take-at, drop-at, take-append-le, take-append-add, length-take-le, getD-set-same, getD-set-other}
 use Rattle.text.specs.declared.switches.Switches.{Switches}
 use Rattle.text.specs.Bytes.{sameBytes}
@@ -13,7 +13,7 @@ use Rattle.literals.specs.InternalContent.{CopiedAs}
 use Rattle.reader.specs.declared.duplicates.Duplicate.the-variants as D
 use Rattle.reader.specs.Reading.{wordOf}
 use Rattle.reader.specs.Syntax.{holds}
-use Rattle.reader.specs.Internal.Values.{bytesAt, KeyAt, KeyHere, HaveKeys, DuplicateAt}
+use Rattle.reader.specs.Internal.Values.{bytesAt, KeyHere, HaveKeys, DuplicateAt}
 use Rattle.reader.specs.Internal.Few.{Walked, KeptAt, KeptFrom, Kept, HaveKept, IsKept, KeyKept}
 use Rattle.reader.proofs.DuplicateLaws.{Past, past-start, past-row, past-key, past-on, past-hit, past-end}
 

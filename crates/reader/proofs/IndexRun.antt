@@ -1,6 +1,6 @@
 -- The walk over an object's keys by the index: what it keeps, and each way on and out.
 -- Assumes nothing.
-use mathlib.Core.Path.{_≡_, refl, sym, ap, _∙_, subst}
+use mathlib.Core.Path.{_≡_, refl, sym, _∙_, subst}
 use Prim.Native.Nat.{ℕ, zero, suc, _<_, _≤_}
 use native.Mathlib.Omega.{arith}
 use mathlib.Core.Bool.{Bool, true, false}
@@ -12,8 +12,8 @@ use Rattle.reader.specs.declared.index.Lookup.{Lookup}
 use Rattle.reader.specs.declared.index.Lookup.the-variants as L
 use Rattle.reader.specs.Reading.{maxNodes, wordOf}
 use Rattle.reader.specs.Syntax.{holds}
-use Rattle.reader.specs.Internal.Values.{KeyAt, KeyHere, Link, SiblingKeys, HaveKeys, FoundKey, DuplicateAt}
-use Rattle.reader.specs.Internal.Index.{keyBytes, isShort, prefixed, IsPrefixed, KeyWritten, cells, Vacant, KeyNode, Indexed, HasIndex, Fresh, LookupIs, LookedUp}
+use Rattle.reader.specs.Internal.Values.{KeyAt, KeyHere, SiblingKeys, HaveKeys, FoundKey, DuplicateAt}
+use Rattle.reader.specs.Internal.Index.{keyBytes, isShort, prefixed, IsPrefixed, KeyWritten, cells, Vacant, Indexed, HasIndex, Fresh, LookupIs, LookedUp}
 use Rattle.reader.proofs.DuplicateLaws.{Past, past-start, past-row, past-key, past-have-keys, past-on, past-hit, past-end}
 use Rattle.reader.proofs.PrefixLaws.{is-short, is-long}
 use Rattle.reader.proofs.IndexLaws.{index-start, index-later, index-long, comes-before, index-more}

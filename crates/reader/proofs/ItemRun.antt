@@ -11,7 +11,6 @@ use lib.ListN.{length, take, drop}
 use borrow.Author.Tests.{eq-eqb, ne-eqb}
 use Rattle.text.specs.declared.switches.Switches.{Switches}
 use Rattle.lexer.specs.declared.item.TokenKind.{TokenKind}
-use Rattle.lexer.specs.declared.item.TokenKind.the-variants as K
 use Rattle.lexer.specs.Token as L
 use Rattle.lexer.specs.Token.{Form, tokenContent, keyContent}
 use Rattle.lexer.specs.Answer.{kindOf}
@@ -22,7 +21,6 @@ use Rattle.reader.specs.declared.tree.Kind.the-variants.{Object}
 use Rattle.reader.specs.declared.tree.Limits.{Limits}
 use Rattle.text.specs.declared.refusal.Refusal.{Refusal}
 use Rattle.text.specs.Refusal.{refusal}
-use Rattle.reader.specs.declared.tree.Children.{Children}
 use Rattle.text.specs.declared.span.Span as CS
 use Rattle.lexer.specs.declared.item.Token as CT
 use Rattle.reader.specs.declared.items.Ahead.{Ahead}
@@ -38,7 +36,7 @@ use Rattle.reader.specs.Syntax.{Label, Frame, frame, Slot, first, lone, 
 use Rattle.reader.specs.Internal.Tokens.{formAt, tokenAt, TokenAt}
 use Rattle.reader.specs.Internal.Values
 use Rattle.reader.specs.Internal.Ahead.{markIs, closerByte, aheadAt, onlyAt, aheadAfter, followsBy, followsAt}
-use Rattle.reader.specs.Internal.Values.{spanAt, runFrom, openedHere, KeyHere, keyDuplicate, unlessDuplicate, KeyRefused, slotOf, turnOf, innerAt, Look, Valued, Ends, Refuses, ItemIs, ChildAt, ElementAt}
+use Rattle.reader.specs.Internal.Values.{spanAt, runFrom, openedHere, KeyHere, keyDuplicate, unlessDuplicate, slotOf, turnOf, innerAt, Valued, Ends, Refuses, RefusesAfter, ItemIs, FieldAt, ChildAt}
 use Rattle.reader.proofs.StepRun.{Peeked, Marked, Wants, NotMarked, not-mark, peek-run, peek-go, peek-refuse, mark-go, is-mark, ahead-token, ahead-refuses, only-at, only-not, past-token, past-refuses, closer-mark, close-step, comma-step, after-step, lone-step, lone-wants, child-step, value-opens, child-opens, item-closes}
 
 -- where there are no keys, none is a duplicate
@@ -74,29 +72,29 @@ module _ {sw : Switches} {s : List ℕ} {from want : ℕ} {r : Only} where
 
 -- ---- the end, or no token
 
-pub item-last : (sw : Switches) (s : List ℕ) (kind : Kind) (tab : List ℕ) (i x m : ℕ) (slot : Slot) (k : TokenKind) (start stop : ℕ) → Peeked sw s i k start stop → markIs k (closerByte kind) ≡ true
-    → Ends sw s kind tab i x m slot stop
-item-last sw s kind tab i x m slot k start stop p e =
+pub item-last : (sw : Switches) (s : List ℕ) (kind : Kind) (i : ℕ) (slot : Slot) (k : TokenKind) (start stop : ℕ) → Peeked sw s i k start stop → markIs k (closerByte kind) ≡ true
+    → Ends sw s kind i slot stop
+item-last sw s kind i slot k start stop p e =
     let t = p .token in
     let h = p .ahead in
     record {
       ahead = omega arith;
       inside = t .inside;
-      ran = λ limits l ts ks stack K. item-closes sw limits s i k start stop p kind l ts ks stack m slot (is-mark sw s k start stop t (closer kind) true e);
+      ran = λ limits l ts ks stack m. item-closes sw limits s i k start stop p kind l ts ks stack m slot (is-mark sw s k start stop t (closer kind) true e);
     }
 
-pub item-none : (sw : Switches) (s : List ℕ) (kind : Kind) (tab : List ℕ) (i x m : ℕ) (slot : Slot) (f : Refusal) → aheadAt sw s i ≡ H.Refused f
-    → Refuses sw s kind tab i x m slot (f .number) (f .place)
+pub item-none : (sw : Switches) (s : List ℕ) (kind : Kind) (i : ℕ) (slot : Slot) (f : Refusal) → aheadAt sw s i ≡ H.Refused f
+    → Refuses sw s kind i slot (f .number) (f .place)
 unfolding atEnd
-item-none sw s kind tab i x m slot f e = record { ran = λ limits l ts ks stack K. ahead-refuses sw s i f e limits (innerAt kind l ts ks stack m slot) (λ place. refl) }
+item-none sw s kind i slot f e = record { ran = λ limits l ts ks stack m. ahead-refuses sw s i f e limits (innerAt kind l ts ks stack m slot) (λ place. refl) }
 
 -- ---- arrays and tuples
 
-module _ (sw : Switches) (s : List ℕ) (kind : Kind) (tab : List ℕ) (i x m z : ℕ) (k : TokenKind) (start stop : ℕ) (p : Peeked sw s i k start stop) where
+module _ (sw : Switches) (s : List ℕ) (kind : Kind) (i z : ℕ) (k : TokenKind) (start stop : ℕ) (p : Peeked sw s i k start stop) where
   lone-run : markIs k (closerByte kind) ≡ false → (eqb z 0 && (markIs k 44 && emptyByComma sw kind)) ≡ true
-      → (limits : Limits) (l : Label) (ts : Forest) (ks : List (List ℕ)) (stack : List Frame)
+      → (limits : Limits) (l : Label) (ts : Forest) (ks : List (List ℕ)) (stack : List Frame) (m : ℕ)
       → runFrom sw limits s i (innerAt kind l ts ks stack m (slotOf z)) ≡ runFrom sw limits s stop (config (frame kind l ts ks ∷ stack) (inside lone) m)
-  lone-run e f limits l ts ks stack =
+  lone-run e f limits l ts ks stack m =
       peek-go sw limits s i (innerAt kind l ts ks stack m (slotOf z)) k start stop (config (frame kind l ts ks ∷ stack) (inside lone) m) p
       (lone-step sw limits kind l ts ks stack m (tokenAt sw s start stop) z (is-mark sw s k start stop (p .token) (closer kind) false e)
       (is-mark sw s k start stop (p .token) "," true (and-first (markIs k 44) (emptyByComma sw kind) (and-second (eqb z 0) (markIs k 44 && emptyByComma sw kind) f)))
@@ -104,7 +102,7 @@ module _ (sw : Switches) (s : List ℕ) (kind : Kind) (tab : List ℕ) (i x m z 
       (and-first (eqb z 0) (markIs k 44 && emptyByComma sw kind) f))
 
   pub item-lone : markIs k (closerByte kind) ≡ false → (eqb z 0 && (markIs k 44 && emptyByComma sw kind)) ≡ true → (j : ℕ) → Marked sw s stop (closerByte kind) j
-      → Ends sw s kind tab i x m (slotOf z) j
+      → Ends sw s kind i (slotOf z) j
   item-lone e f j q =
       let t = p .token in
       let h = p .ahead in
@@ -112,24 +110,24 @@ module _ (sw : Switches) (s : List ℕ) (kind : Kind) (tab : List ℕ) (i x m z 
         ahead = omega arith;
         inside = q .inside;
         ran =
-            λ limits l ts ks stack K.
-            lone-run e f limits l ts ks stack
+            λ limits l ts ks stack m.
+            lone-run e f limits l ts ks stack m
             ∙ mark-go sw limits s stop (config (frame kind l ts ks ∷ stack) (inside lone) m) (closerByte kind) j (ended stack m (l .name) (branch (headBy l j) kind ts)) q
             (close-step sw limits kind l ts ks stack m (record { form = L.mark (closerByte kind); start = q .start; stop = j }) (closer-mark kind) lone);
       }
 
   pub item-lone-not : markIs k (closerByte kind) ≡ false → (eqb z 0 && (markIs k 44 && emptyByComma sw kind)) ≡ true → (number place : ℕ)
-      → NotMarked sw s stop (closerByte kind) number place → Refuses sw s kind tab i x m (slotOf z) number place
+      → NotMarked sw s stop (closerByte kind) number place → Refuses sw s kind i (slotOf z) number place
   item-lone-not e f number place q =
       record {
         ran =
-            λ limits l ts ks stack K.
-            lone-run e f limits l ts ks stack
+            λ limits l ts ks stack m.
+            lone-run e f limits l ts ks stack m
             ∙ q .ran limits (config (frame kind l ts ks ∷ stack) (inside lone) m) (lone-wants sw limits kind l ts ks stack m);
       }
 
   pub item-value : isObject kind ≡ false → markIs k (closerByte kind) ≡ false → (eqb z 0 && (markIs k 44 && emptyByComma sw kind)) ≡ false
-      → Valued sw s kind tab i x m (slotOf z) k start stop 0 0
+      → Valued sw s kind i (slotOf z) k start stop 0 0
   unfolding spanAt
   item-value o e f =
       record {
@@ -142,7 +140,7 @@ module _ (sw : Switches) (s : List ℕ) (kind : Kind) (tab : List ℕ) (i x m z 
         keys = λ ks. ks;
         added = λ q. absurd (false≢true (sym o ∙ q));
         ran =
-            λ limits l ts ks stack K.
+            λ limits l ts ks stack m.
             child-opens sw limits s i k start stop p kind l ts ks stack m z o (is-mark sw s k start stop (p .token) (closer kind) false e)
             (ap (λ (b : Bool). eqb z 0 && (b && emptyByComma sw kind)) (is-mark sw s k start stop (p .token) "," (markIs k 44) refl) ∙ f)
             ∙ no-duplicate kind 0 ks [] _ o;
@@ -158,12 +156,12 @@ pub record Follows (sw : Switches) (s : List ℕ) (kind : Kind) (i j : ℕ) : Ty
       → runFrom sw limits s i (innerAt kind l ts ks stack m after) ≡ runFrom sw limits s j (innerAt kind l ts ks stack m more)
 
 -- a comma, the end or a refusal, by the code's answer
-abbrev pub NextIs : Switches → List ℕ → Kind → List ℕ → (i x m : ℕ) → After → Type 0
-NextIs sw s kind tab i x m (X.More j) = Follows sw s kind i j
-NextIs sw s kind tab i x m (X.Over j) = Ends sw s kind tab i x m after j
-NextIs sw s kind tab i x m (X.Refused f) = Refuses sw s kind tab i x m after (f .number) (f .place)
+abbrev pub NextIs : Switches → List ℕ → Kind → (i : ℕ) → After → Type 0
+NextIs sw s kind i (X.More j) = Follows sw s kind i j
+NextIs sw s kind i (X.Over j) = Ends sw s kind i after j
+NextIs sw s kind i (X.Refused f) = Refuses sw s kind i after (f .number) (f .place)
 
-module _ (sw : Switches) (s : List ℕ) (kind : Kind) (tab : List ℕ) (i x m : ℕ) where
+module _ (sw : Switches) (s : List ℕ) (kind : Kind) (i : ℕ) where
   module _ (k : TokenKind) (start stop : ℕ) (p : Peeked sw s i k start stop) where
     after-comma : markIs k (closerByte kind) ≡ false → markIs k 44 ≡ true → Follows sw s kind i stop
     after-comma e f =
@@ -178,35 +176,35 @@ module _ (sw : Switches) (s : List ℕ) (kind : Kind) (tab : List ℕ) (i x m : 
               (comma-step sw limits kind l ts ks stack m (tokenAt sw s start stop) (is-mark sw s k start stop t (closer kind) false e) (is-mark sw s k start stop t "," true f));
         }
 
-    after-other : markIs k (closerByte kind) ≡ false → markIs k 44 ≡ false → Refuses sw s kind tab i x m after 7 start
+    after-other : markIs k (closerByte kind) ≡ false → markIs k 44 ≡ false → Refuses sw s kind i after 7 start
     after-other e f =
         record {
           ran =
-              λ limits l ts ks stack K.
+              λ limits l ts ks stack m.
               peek-refuse sw limits s i (innerAt kind l ts ks stack m after) k start stop 7 p
               (after-step sw limits kind l ts ks stack m (tokenAt sw s start stop) (is-mark sw s k start stop (p .token) (closer kind) false e) (is-mark sw s k start stop (p .token) "," false f));
         }
 
-  next-by : i ≤ length s → (a : Ahead) → aheadAt sw s i ≡ a → NextIs sw s kind tab i x m (followsBy kind a)
+  next-by : i ≤ length s → (a : Ahead) → aheadAt sw s i ≡ a → NextIs sw s kind i (followsBy kind a)
   unfolding followsBy
   next-by h (H.Token t) q = by (markIs (t .kind) (closerByte kind)) (markIs (t .kind) 44) refl refl
     where
       by : (b c : Bool) → markIs (t .kind) (closerByte kind) ≡ b → markIs (t .kind) 44 ≡ c
-          → NextIs sw s kind tab i x m (cond b (X.Over (t .span .stop)) (cond c (X.More (t .span .stop)) (X.Refused (refusal 7 (t .span .start)))))
-      by true c e f = item-last sw s kind tab i x m after (t .kind) (t .span .start) (t .span .stop) (ahead-token sw s i t h q) e
+          → NextIs sw s kind i (cond b (X.Over (t .span .stop)) (cond c (X.More (t .span .stop)) (X.Refused (refusal 7 (t .span .start)))))
+      by true c e f = item-last sw s kind i after (t .kind) (t .span .start) (t .span .stop) (ahead-token sw s i t h q) e
       by false true e f = after-comma (t .kind) (t .span .start) (t .span .stop) (ahead-token sw s i t h q) e f
       by false false e f = after-other (t .kind) (t .span .start) (t .span .stop) (ahead-token sw s i t h q) e f
-  next-by h (H.Refused f) q = item-none sw s kind tab i x m after f q
+  next-by h (H.Refused f) q = item-none sw s kind i after f q
 
   -- what `after_item` has answered
-  pub next-is : {r : After} → i ≤ length s → r ≡ followsAt sw s kind i → (q : After) → r ≡ q → NextIs sw s kind tab i x m q
-  next-is {r} h e q p = subst (NextIs sw s kind tab i x m) (sym e ∙ p) (next-by h (aheadAt sw s i) refl)
+  pub next-is : {r : After} → i ≤ length s → r ≡ followsAt sw s kind i → (q : After) → r ≡ q → NextIs sw s kind i q
+  next-is {r} h e q p = subst (NextIs sw s kind i) (sym e ∙ p) (next-by h (aheadAt sw s i) refl)
 
 -- ---- the next child, after the last one if there is one
 
 -- what comes after the comma
-past-comma : (sw : Switches) (s : List ℕ) (kind : Kind) (tab : List ℕ) (i j x m : ℕ) (r : Item) → Follows sw s kind i j → ItemIs sw s kind tab j x m more r → ItemIs sw s kind tab i x m after r
-past-comma sw s kind tab i j x m (I.Value t key) F W =
+past-comma : (sw : Switches) (s : List ℕ) (kind : Kind) (i j : ℕ) (r : Item) → Follows sw s kind i j → ItemIs sw s kind j more r → ItemIs sw s kind i after r
+past-comma sw s kind i j (I.Value t key) F W =
     record {
       token = W .token;
       ahead = omega (arith, F .ahead, W .ahead);
@@ -216,41 +214,39 @@ past-comma sw s kind tab i j x m (I.Value t key) F W =
       key = W .key;
       keys = W .keys;
       added = W .added;
-      ran = λ limits l ts ks stack K. F .ran limits l ts ks stack m ∙ W .ran limits l ts ks stack K;
+      ran = λ limits l ts ks stack m. F .ran limits l ts ks stack m ∙ W .ran limits l ts ks stack m;
     }
-past-comma sw s kind tab i j x m (I.Last e) F E =
+past-comma sw s kind i j (I.Last e) F E =
     record {
       ahead = omega (arith, F .ahead, E .ahead);
       inside = E .inside;
-      ran = λ limits l ts ks stack K. F .ran limits l ts ks stack m ∙ E .ran limits l ts ks stack K;
+      ran = λ limits l ts ks stack m. F .ran limits l ts ks stack m ∙ E .ran limits l ts ks stack m;
     }
-past-comma sw s kind tab i j x m (I.Refused f) F R = record { ran = λ limits l ts ks stack K. F .ran limits l ts ks stack m ∙ R .ran limits l ts ks stack K }
+past-comma sw s kind i j (I.Refused f) F R = record { ran = λ limits l ts ks stack m. F .ran limits l ts ks stack m ∙ R .ran limits l ts ks stack m }
+past-comma sw s kind i j (I.RefusedAfter key f) F R =
+    record {
+      content = R .content;
+      key = R .key;
+      ran = λ limits l ts ks stack m. F .ran limits l ts ks stack m ∙ R .ran limits l ts ks stack m;
+    }
 
-module _ (sw : Switches) (s : List ℕ) (kind : Kind) (tab : List ℕ) (c : Children) (i : ℕ) (r : Item) where
-  slot-as : (p q : Slot) → p ≡ q → ItemIs sw s kind tab i (c .first) (c .next) p r → ItemIs sw s kind tab i (c .first) (c .next) q r
-  slot-as p q e h = subst (λ (slot : Slot). ItemIs sw s kind tab i (c .first) (c .next) slot r) e h
+module _ (sw : Switches) (s : List ℕ) (kind : Kind) (z i : ℕ) (r : Item) where
+  slot-as : (p q : Slot) → p ≡ q → ItemIs sw s kind i p r → ItemIs sw s kind i q r
+  slot-as p q e h = subst (λ (slot : Slot). ItemIs sw s kind i slot r) e h
 
-  pub child-first : c .count ≡ 0 → Values.ItemAt sw s kind tab c i r → ChildAt sw s kind tab c i r
-  child-first e h = record { is = slot-as (slotOf (c .count)) (turnOf (c .count)) (rw (eq-eqb (c .count) 0 e)) (h .is) }
+  pub child-first : z ≡ 0 → Values.ItemAt sw s kind z i r → ChildAt sw s kind z i r
+  child-first e h = record { is = slot-as (slotOf z) (turnOf z) (rw (eq-eqb z 0 e)) (h .is) }
 
-  pub child-after : (c .count ≡ 0 → ⊥) → ItemIs sw s kind tab i (c .first) (c .next) after r → ChildAt sw s kind tab c i r
-  child-after n h = record { is = slot-as after (turnOf (c .count)) (rw (ne-eqb (c .count) 0 n)) h }
+  pub child-after : (z ≡ 0 → ⊥) → ItemIs sw s kind i after r → ChildAt sw s kind z i r
+  child-after n h = record { is = slot-as after (turnOf z) (rw (ne-eqb z 0 n)) h }
 
-pub child-more : {sw : Switches} {s : List ℕ} {kind : Kind} {tab : List ℕ} {c : Children} {i j : ℕ} {r : Item} → (c .count ≡ 0 → ⊥) → Follows sw s kind i j → Values.ItemAt sw s kind tab c j r
-    → ChildAt sw s kind tab c i r
-child-more {sw} {s} {kind} {tab} {c} {i} {j} {r} n F h =
-    child-after sw s kind tab c i r n
-    (past-comma sw s kind tab i j (c .first) (c .next) r F (slot-as sw s kind tab c j r (slotOf (c .count)) more (rw (ne-eqb (c .count) 0 n)) (h .is)))
+pub child-more : {sw : Switches} {s : List ℕ} {kind : Kind} {z i j : ℕ} {r : Item} → (z ≡ 0 → ⊥) → Follows sw s kind i j → Values.ItemAt sw s kind z j r → ChildAt sw s kind z i r
+child-more {sw} {s} {kind} {z} {i} {j} {r} n F h =
+    child-after sw s kind z i r n (past-comma sw s kind i j r F (slot-as sw s kind z j r (slotOf z) more (rw (ne-eqb z 0 n)) (h .is)))
 
 -- the reader of an item by the kind of its container
-pub look-as : {sw : Switches} {s : List ℕ} {kind : Kind} {tab : List ℕ} {c : Children} {from : ℕ} (other : Kind) → kind ≡ other → Look sw s kind tab c from → Look sw s other tab c from
-look-as {sw} {s} {kind} {tab} {c} {from} other e h = subst (λ (k : Kind). Look sw s k tab c from) e h
-
-pub item-as : {sw : Switches} {s : List ℕ} {kind : Kind} {tab : List ℕ} {c : Children} {from : ℕ} {r : Item} → kind ≡ Object → Values.ItemAt sw s Object tab c from r → Values.ItemAt sw s kind tab c from r
-item-as {sw} {s} {kind} {tab} {c} {from} {r} e h = subst (λ (k : Kind). Values.ItemAt sw s k tab c from r) (sym e) h
-
-pub element-as : {sw : Switches} {s : List ℕ} {kind : Kind} {tab : List ℕ} {c : Children} {from : ℕ} {r : Item} → ElementAt sw s kind (c .count) from r → Values.ItemAt sw s kind tab c from r
-element-as {sw} {s} {kind} {tab} {c} {from} {r} h = record { is = h .is tab (c .first) (c .next) }
+pub field-as : {sw : Switches} {s : List ℕ} {kind : Kind} {z from : ℕ} {r : Item} → kind ≡ Object → FieldAt sw s from r → Values.ItemAt sw s kind z from r
+field-as {sw} {s} {kind} {z} {from} {r} e h = subst (λ (k : Kind). Values.ItemAt sw s k z from r) (sym e) (record { is = h .is z })
 
 pub no-object : (kind other : Kind) → kind ≡ other → isObject other ≡ false → isObject kind ≡ false
 no-object kind other e f = ap isObject e ∙ f
@@ -351,24 +347,24 @@ module _ (sw : Switches) (s : List ℕ) (k : TokenKind) (start stop : ℕ) (t : 
   unfolding key-here
   key-of e = key-content (formAt sw s start) (key-form e) .1 .0
 
-module _ (sw : Switches) (s tab : List ℕ) (i x m : ℕ) (k : TokenKind) (start stop : ℕ) (p : Peeked sw s i k start stop) (e : markIs k 125 ≡ false) where
+module _ (sw : Switches) (s : List ℕ) (i : ℕ) (k : TokenKind) (start stop : ℕ) (p : Peeked sw s i k start stop) (e : markIs k 125 ≡ false) where
   -- in an object, a token that is no closing bracket stands where a key is due
-  field-step : (limits : Limits) (l : Label) (ts : Forest) (ks : List (List ℕ)) (stack : List Frame) (z : ℕ) (o : Option (List ℕ)) → keyOf (formAt sw s start) ≡ o
+  field-step : (limits : Limits) (l : Label) (ts : Forest) (ks : List (List ℕ)) (stack : List Frame) (m z : ℕ) (o : Option (List ℕ)) → keyOf (formAt sw s start) ≡ o
       → step sw limits (innerAt Object l ts ks stack m (slotOf z)) (tokenAt sw s start stop) ≡ keyStep (frame Object l ts ks) stack m (record { start = start; stop = stop }) o
   unfolding childStep spanOf emptyByComma
-  field-step limits l ts ks stack z o q =
+  field-step limits l ts ks stack m z o q =
       child-step sw limits Object l ts ks stack m (tokenAt sw s start stop) z (is-mark sw s k start stop (p .token) "}" false e)
       (ap (λ (b : Bool). eqb z 0 && b) (and-false (isMark "," (formAt sw s start))) ∙ and-false (eqb z 0))
       ∙ ap (keyStep (frame Object l ts ks) stack m (record { start = start; stop = stop })) q
 
-  pub field-not : isKey k ≡ false → (z : ℕ) → Refuses sw s Object tab i x m (slotOf z) 7 start
+  pub field-not : isKey k ≡ false → (z : ℕ) → Refuses sw s Object i (slotOf z) 7 start
   unfolding keyStep
   field-not f z =
       record {
         ran =
-            λ limits l ts ks stack K.
+            λ limits l ts ks stack m.
             peek-refuse sw limits s i (innerAt Object l ts ks stack m (slotOf z)) k start stop 7 p
-            (field-step limits l ts ks stack z none (no-key (formAt sw s start) (ap isKey (p .token .kind) ∙ f)));
+            (field-step limits l ts ks stack m z none (no-key (formAt sw s start) (ap isKey (p .token .kind) ∙ f)));
       }
 
   module _ (y : isKey k ≡ true) where
@@ -376,17 +372,17 @@ module _ (sw : Switches) (s tab : List ℕ) (i x m : ℕ) (k : TokenKind) (start
     w = key-here sw s k start stop (p .token) y .content
 
     -- the run goes on after the key, unless it is among those before it
-    new-run : (limits : Limits) (l : Label) (ts : Forest) (ks : List (List ℕ)) (stack : List Frame) (z : ℕ)
+    new-run : (limits : Limits) (l : Label) (ts : Forest) (ks : List (List ℕ)) (stack : List Frame) (m z : ℕ)
         → runFrom sw limits s i (innerAt Object l ts ks stack m (slotOf z))
         ≡ unlessDuplicate (keyDuplicate Object start ks w) (runFrom sw limits s stop (config (frame Object l ts (ks ++ (w ∷ [])) ∷ stack) (colon (record { start = start; stop = stop })) m))
     unfolding keyStep keyDuplicate w
-    new-run limits l ts ks stack z =
+    new-run limits l ts ks stack m z =
         peek-run sw limits s i (innerAt Object l ts ks stack m (slotOf z)) k start stop p
-        ∙ ap (λ (q : Step). afterStep start q (λ g. runFrom sw limits s stop g)) (field-step limits l ts ks stack z (some w) (key-of sw s k start stop (p .token) y))
+        ∙ ap (λ (q : Step). afterStep start q (λ g. runFrom sw limits s stop g)) (field-step limits l ts ks stack m z (some w) (key-of sw s k start stop (p .token) y))
         ∙ refuse-unless (holds ks w) start (config (frame Object l ts (ks ++ (w ∷ [])) ∷ stack) (colon (record { start = start; stop = stop })) m) (λ g. runFrom sw limits s stop g)
 
     -- the value's first token comes after the key
-    pub field-value : length s ≤ maxText → (z : ℕ) (u : CT.Token) → AfterKeyIs sw s start stop (H.Token u) → Valued sw s Object tab i x m (slotOf z) (u .kind) (u .span .start) (u .span .stop) start stop
+    pub field-value : length s ≤ maxText → (z : ℕ) (u : CT.Token) → AfterKeyIs sw s start stop (H.Token u) → Valued sw s Object i (slotOf z) (u .kind) (u .span .start) (u .span .stop) start stop
     unfolding w key-here
     field-value short z u A =
         let t = p .token in
@@ -404,21 +400,22 @@ module _ (sw : Switches) (s tab : List ℕ) (i x m : ℕ) (k : TokenKind) (start
           keys = λ ks. ks ++ (w ∷ []);
           added = λ _ ks. refl;
           ran =
-              λ limits l ts ks stack K.
-              new-run limits l ts ks stack z
+              λ limits l ts ks stack m.
+              new-run limits l ts ks stack m z
               ∙ ap (unlessDuplicate (keyDuplicate Object start ks w))
               (A .2 limits (frame Object l ts (ks ++ (w ∷ [])) ∷ stack) m
               ∙ ap (λ (q : Option Span). openedHere sw limits s (u .span .start) (u .span .stop) true q m (frame Object l ts (ks ++ (w ∷ [])) ∷ stack)) (sym (span-some start stop o)));
         }
 
     -- what follows the key is refused
-    pub field-refused : (z : ℕ) (f r : Refusal) → AfterKeyIs sw s start stop (H.Refused f) → KeyRefused sw s tab x m start stop f r → Refuses sw s Object tab i x m (slotOf z) (r .number) (r .place)
+    pub field-refused : (z : ℕ) (f : Refusal) → AfterKeyIs sw s start stop (H.Refused f) → RefusesAfter sw s Object i (slotOf z) (f .number) (f .place) start stop
     unfolding w
-    field-refused z f r A F =
+    field-refused z f A =
         record {
+          content = w;
+          key = key-here sw s k start stop (p .token) y .key;
           ran =
-              λ limits l ts ks stack K.
-              new-run limits l ts ks stack z
-              ∙ ap (unlessDuplicate (keyDuplicate Object start ks w)) (A limits (frame Object l ts (ks ++ (w ∷ [])) ∷ stack) m)
-              ∙ sym (F .is w (key-here sw s k start stop (p .token) y .key) ks (K .siblings refl));
+              λ limits l ts ks stack m.
+              new-run limits l ts ks stack m z
+              ∙ ap (unlessDuplicate (keyDuplicate Object start ks w)) (A limits (frame Object l ts (ks ++ (w ∷ [])) ∷ stack) m);
         }

@@ -1,5 +1,4 @@
 // Duplicate keys: the first key of an object that stands among those before it.
-ghost use mathlib.Core.Path.{_≡_};
 ghost use Prim.Native.Nat.{_≤_};
 ghost use lib.ListN.{length};
 ghost use Rattle.reader.specs.Internal.Values.{HaveKeys, KeyHere, DuplicateAt};

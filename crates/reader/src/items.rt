@@ -4,6 +4,7 @@ ghost use mathlib.Core.Bool.{false, _&&_};
 ghost use lib.Dec.{eqb};
 ghost use Prim.Native.Nat.{_≤_};
 ghost use lib.ListN.{length};
+ghost use Rattle.reader.specs.Reading.{maxText};
 ghost use Rattle.reader.specs.Syntax.{isObject, emptyByComma};
 ghost use Rattle.reader.specs.Internal.Ahead.{
   aheadAt,
@@ -13,9 +14,7 @@ ghost use Rattle.reader.specs.Internal.Ahead.{
   markIs,
   closerByte,
 };
-ghost use Rattle.reader.specs.Internal.Values.{Look, ItemAt, ChildAt, ElementAt};
-use super::keys::key_refusal;
-use super::tree::Children;
+ghost use Rattle.reader.specs.Internal.Values.{ItemAt, FieldAt, ChildAt};
 use super::tree::Kind;
 use lexer::item::Next;
 use lexer::item::Token;
@@ -39,11 +38,13 @@ pub enum Only {
     Refused(Refusal),
 }
 
-// A child's first token with its key's span, the end of the container, or a refusal.
+// A child's first token with its key's span, the end of the container, or a refusal; or a refusal after a key, which stands only if the key
+// is new.
 pub enum Item {
     Value { token: Token, key: Span },
     Last(usize),
     Refused(Refusal),
+    RefusedAfter { key: Span, refusal: Refusal },
 }
 
 // After a child: the end of a comma, the end of the container, or a refusal.
@@ -156,7 +157,7 @@ fn opens_empty(sw: Switches, kind: Kind, count: usize, token: Token) -> bool
 fn next_element(sw: Switches, text: &[u8], kind: Kind, count: usize, from: usize) -> Item
     requires { ⌜ from ≤ length (now text) ⌝ }
     requires { ⌜ isObject kind ≡ false ⌝ }
-    ensures { λ r. ⌜ ElementAt sw (now (text .entry)) kind count from r ⌝ }
+    ensures { λ r. ⌜ ItemAt sw (now (text .entry)) kind count from r ⌝ }
 {
     let closer = closer_of(kind);
     match token_from(sw, text, from) {
@@ -179,11 +180,11 @@ fn next_element(sw: Switches, text: &[u8], kind: Kind, count: usize, from: usize
     }
 }
 
-// A key with its value's first token, or the end, of an object with these children. Whether the key is one of theirs is asked here only
-// where what follows it is refused; else where the object ends, of all its keys at once.
-fn next_field(sw: Switches, text: &[u8], table: &[u32], children: Children, from: usize) -> Item
-    requires { ⌜ Look sw (now text) Kind.Object (now table) children from ⌝ }
-    ensures { λ r. ⌜ ItemAt sw (now (text .entry)) Kind.Object (now (table .entry)) children from r ⌝ }
+// A key with its value's first token, or the end, of an object. Whether the key is new is not asked here.
+fn next_field(sw: Switches, text: &[u8], from: usize) -> Item
+    requires { ⌜ from ≤ length (now text) ⌝ }
+    requires { ⌜ length (now text) ≤ maxText ⌝ }
+    ensures { λ r. ⌜ FieldAt sw (now (text .entry)) from r ⌝ }
 {
     match token_from(sw, text, from) {
         Ahead::Token(token) => {
@@ -195,10 +196,7 @@ fn next_field(sw: Switches, text: &[u8], table: &[u32], children: Children, from
                 let key = token.span;
                 return match token_after(sw, text, key.stop, b':') {
                     Ahead::Token(first) => Item::Value { token: first, key },
-                    Ahead::Refused(refusal) => {
-                        let own = key_refusal(sw, text, table, children, key, refusal);
-                        Item::Refused(own)
-                    }
+                    Ahead::Refused(refusal) => Item::RefusedAfter { key, refusal },
                 };
             }
             Item::Refused(Refusal {
@@ -210,22 +208,16 @@ fn next_field(sw: Switches, text: &[u8], table: &[u32], children: Children, from
     }
 }
 
-// A child's first token, or the end, of a container with these children.
-fn next_item(
-    sw: Switches,
-    text: &[u8],
-    table: &[u32],
-    kind: Kind,
-    children: Children,
-    from: usize,
-) -> Item
-    requires { ⌜ Look sw (now text) kind (now table) children from ⌝ }
-    ensures { λ r. ⌜ ItemAt sw (now (text .entry)) kind (now (table .entry)) children from r ⌝ }
+// A child's first token, or the end, of a container that has so many children.
+fn next_item(sw: Switches, text: &[u8], kind: Kind, count: usize, from: usize) -> Item
+    requires { ⌜ from ≤ length (now text) ⌝ }
+    requires { ⌜ length (now text) ≤ maxText ⌝ }
+    ensures { λ r. ⌜ ItemAt sw (now (text .entry)) kind count from r ⌝ }
 {
     match kind {
-        Kind::Object => next_field(sw, text, table, children, from),
-        Kind::Array => next_element(sw, text, kind, children.count, from),
-        Kind::Tuple => next_element(sw, text, kind, children.count, from),
+        Kind::Object => next_field(sw, text, from),
+        Kind::Array => next_element(sw, text, kind, count, from),
+        Kind::Tuple => next_element(sw, text, kind, count, from),
     }
 }
 
@@ -252,24 +244,19 @@ fn after_item(sw: Switches, text: &[u8], kind: Kind, from: usize) -> After
     }
 }
 
-// A child's first token, or the end, from where the last of these children ends, or the opening bracket if there is none.
-pub(crate) fn next_child(
-    sw: Switches,
-    text: &[u8],
-    table: &[u32],
-    kind: Kind,
-    children: Children,
-    from: usize,
-) -> Item
-    requires { ⌜ Look sw (now text) kind (now table) children from ⌝ }
-    ensures { λ r. ⌜ ChildAt sw (now (text .entry)) kind (now (table .entry)) children from r ⌝ }
+// A child's first token, or the end, of a container that has so many children, from where the last of them ends, or from the opening
+// bracket if there is none.
+pub(crate) fn next_child(sw: Switches, text: &[u8], kind: Kind, count: usize, from: usize) -> Item
+    requires { ⌜ from ≤ length (now text) ⌝ }
+    requires { ⌜ length (now text) ≤ maxText ⌝ }
+    ensures { λ r. ⌜ ChildAt sw (now (text .entry)) kind count from r ⌝ }
 {
-    if children.count == 0 {
-        return next_item(sw, text, table, kind, children, from);
+    if count == 0 {
+        return next_item(sw, text, kind, count, from);
     }
     match after_item(sw, text, kind, from) {
         After::Refused(refusal) => Item::Refused(refusal),
         After::Over(end) => Item::Last(end),
-        After::More(comma) => next_item(sw, text, table, kind, children, comma),
+        After::More(comma) => next_item(sw, text, kind, count, comma),
     }
 }

@@ -5,7 +5,7 @@ ghost use Rattle.reader.specs.Internal.Values.{
   KeyIn,
   FirstDuplicate,
   RefusedLate,
-  ChildRefusedLate,
+  RefusedLateAfter,
 };
 use super::duplicates::Duplicate;
 use super::duplicates::duplicate_by_walk;
@@ -65,9 +65,9 @@ pub(crate) fn late_refusal(
     }
 }
 
-// A refusal in the value with this key, which stands after these children: 8 at a duplicate key of theirs, or at this key if it is
-// among theirs, or else the refusal itself.
-pub(crate) fn child_refusal(
+// The same after this key, which stands after these children, or in its value: 8 at a duplicate key of theirs, or at this key if it is among
+// theirs, or else the refusal itself.
+pub(crate) fn late_after(
     sw: Switches,
     text: &[u8],
     table: &[u32],
@@ -78,7 +78,7 @@ pub(crate) fn child_refusal(
 ) -> Refusal
     requires { ⌜ Keys sw (now text) kind (now table) children ⌝ }
     requires { ⌜ KeyIn sw (now text) kind key ⌝ }
-    ensures { λ r. ⌜ ChildRefusedLate sw (now (text .entry)) kind (now (table .entry)) children key refusal r ⌝ }
+    ensures { λ r. ⌜ RefusedLateAfter sw (now (text .entry)) kind (now (table .entry)) children key refusal r ⌝ }
 {
     match kind {
         Kind::Object => match find_duplicate(sw, text, table, kind, children) {

@@ -1,7 +1,6 @@
 // Values, containers and identifiers: readers that call each other in a cycle; the bytes left in the text fall.
 ghost use mathlib.Core.Path.{_≡_};
-ghost use mathlib.Core.Bool.{true, _&&_};
-ghost use lib.Dec.{leb};
+ghost use mathlib.Core.Bool.{true};
 ghost use Prim.Native.Nat.{_≤_, _<_};
 ghost use lib.ListN.{length};
 ghost use Rattle.reader.specs.Reading.{maxText};
@@ -13,11 +12,14 @@ ghost use Rattle.reader.specs.Internal.Values.{
   freshDue,
   childSpot,
   namedDue,
+  noChildren,
   RowRoom,
   leafProgress,
   leafTable,
   Ready,
   Placed,
+  isFull,
+  openingRefusal,
   ReadAs,
   Keys,
   BranchEnded,
@@ -30,8 +32,8 @@ use super::items::Only;
 use super::items::next_child;
 use super::items::one_mark;
 use super::items::token_after;
-use super::late::child_refusal;
 use super::late::find_duplicate;
+use super::late::late_after;
 use super::late::late_refusal;
 use super::rows::kind_word;
 use super::rows::put_row;
@@ -128,12 +130,36 @@ fn named_due(due: Due, name: Span) -> Due
 
 // Whether a value that is due has no node left; one whose identifier was counted has its node.
 fn is_full(limits: Limits, due: Due) -> bool
-    ensures { λ r. ⌜ r ≡ (due .fresh && leb (limits .nodes) (due .spot .node)) ⌝ }
+    ensures { λ r. ⌜ r ≡ isFull limits due ⌝ }
 {
     if due.fresh {
         return limits.nodes <= due.spot.node;
     }
     false
+}
+
+// No children so far, of which the first would be this node.
+fn no_children(first: usize) -> Children
+    ensures { λ r. ⌜ r ≡ noChildren first ⌝ }
+{
+    Children {
+        first,
+        next: first,
+        count: 0,
+    }
+}
+
+// The number by which a container that is due is refused where it opens, or 0.
+fn opening_refusal(limits: Limits, due: Due) -> u8
+    ensures { λ r. ⌜ r ≡ openingRefusal limits due ⌝ }
+{
+    if limits.depth <= due.spot.depth {
+        return TOO_DEEP;
+    }
+    if is_full(limits, due) {
+        return NO_NODE_LEFT;
+    }
+    0
 }
 
 // ---- rows
@@ -224,8 +250,7 @@ pub(crate) fn read_value(
 }
 
 // The object, array or tuple that this bracket opens. A duplicate key is not refused at the key but where the container ends or where
-// anything in it is refused, so that its keys are looked through once. `next_child` is called at two places: called at one, it would be
-// compiled into the cycle, whose frame is on the stack once for each open container or identifier.
+// anything in it is refused, so that its keys are looked through once.
 fn read_container(
     rules: Rules,
     text: &[u8],
@@ -239,31 +264,22 @@ fn read_container(
     ensures { λ r. ⌜ ReadAs rules (now (text .entry)) due bracket (container kind) (now (table .entry)) (now (table .exit)) r ⌝ }
 {
     let place = bracket.start;
+    let number = opening_refusal(rules.limits, due);
+    if number != 0 {
+        return Progress::Refused(Refusal { number, place });
+    }
     let spot = due.spot;
-    if rules.limits.depth <= spot.depth {
-        return Progress::Refused(Refusal {
-            number: TOO_DEEP,
-            place,
-        });
-    }
-    if is_full(rules.limits, due) {
-        return Progress::Refused(Refusal {
-            number: NO_NODE_LEFT,
-            place,
-        });
-    }
-    let first = spot.node + 1;
     let mut from = bracket.stop;
-    let mut children = Children {
-        first,
-        next: first,
-        count: 0,
-    };
-    let mut item = next_child(rules.sw, text, table, kind, children, from);
+    let mut children = no_children(spot.node + 1);
+    let mut item = next_child(rules.sw, text, kind, children.count, from);
     loop {
         match item {
             Item::Refused(refusal) => {
                 let late = late_refusal(rules.sw, text, table, kind, children, refusal);
+                return Progress::Refused(late);
+            }
+            Item::RefusedAfter { key, refusal } => {
+                let late = late_after(rules.sw, text, table, kind, children, key, refusal);
                 return Progress::Refused(late);
             }
             Item::Last(end) => return put_branch(rules.sw, text, table, due, kind, children, end),
@@ -271,22 +287,14 @@ fn read_container(
                 let child = child_due(spot, children.next, token.span.start, key);
                 match read_value(rules, text, table, child, token) {
                     Progress::Refused(refusal) => {
-                        let late = child_refusal(
-                            rules.sw,
-                            text,
-                            table,
-                            kind,
-                            children,
-                            key,
-                            refusal,
-                        );
+                        let late = late_after(rules.sw, text, table, kind, children, key, refusal);
                         return Progress::Refused(late);
                     }
                     Progress::Done(stop, next) => {
                         children.next = next;
                         children.count += 1;
                         from = stop;
-                        item = next_child(rules.sw, text, table, kind, children, from);
+                        item = next_child(rules.sw, text, kind, children.count, from);
                     }
                 }
             }

@@ -1,7 +1,7 @@
--- made by tools/proof.py from answers/duper_summary (answers e0d136ad2e2b, proof 4cfd308324ec): edit that file, not this one
+-- made by tools/proof.py from answers/duper_summary (answers 82aef12af18b, proof da8be3cfc3d5): edit that file, not this one
 use borrow.Author.Needs.{needs}
 use native.Mathlib.Omega.{arith}
-use mathlib.Core.Path.{sym, ap, _∙_}
+use mathlib.Core.Path.{sym, _∙_}
 use lib.ListN.{length}
 use Rattle.text.specs.Switches.{presentEdition}
 use Rattle.summary.proofs.AnswerLaws.{summary-place}

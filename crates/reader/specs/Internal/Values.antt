@@ -77,6 +77,10 @@ namedLabel p name = record { start = p .start; key = p .key; name = wordsOf name
 abbrev pub namedDue : Due → CS.Span → Due
 namedDue due name = record { any = due .any; fresh = false; label = namedLabel (due .label) name; spot = due .spot }
 
+-- no children so far, of which the first would be this node
+abbrev pub noChildren : (node : ℕ) → Children
+noChildren node = record { first = node; next = node; count = 0 }
+
 -- a row's words
 abbrev pub rowWords : (kind parent : ℕ) → CL.Label → (stop next low high extra : ℕ) → List ℕ
 rowWords kind parent p stop next low high extra =
@@ -204,18 +208,8 @@ turnOf z = cond (eqb z 0) first after
 abbrev pub innerAt : Kind → Label → Forest → List (List ℕ) → List Frame → (m : ℕ) → Slot → Config
 innerAt kind l ts ks stack m slot = config (frame kind l ts ks ∷ stack) (inside slot) m
 
--- the children so far, as the code knows them: in an object, their rows in the table from x to m
-pub record Known (sw : Switches) (s : List ℕ) (kind : Kind) (tab : List ℕ) (x m : ℕ) (ks : List (List ℕ)) : Type 0 where
-  pub siblings : isObject kind ≡ true → SiblingKeys sw s tab x m ks
-
--- what a reader of an item is handed
-pub record Look (sw : Switches) (s : List ℕ) (kind : Kind) (tab : List ℕ) (c : Children) (from : ℕ) : Type 0 where
-  pub inside : from ≤ length s
-  pub short : length s ≤ maxText
-  pub siblings : isObject kind ≡ true → HaveKeys sw s tab (c .first) (c .next)
-
 -- a child's first token comes, with its key from a to b
-pub record Valued (sw : Switches) (s : List ℕ) (kind : Kind) (tab : List ℕ) (i x m : ℕ) (slot : Slot) (k : TokenKind) (start stop a b : ℕ) : Type 0 where
+pub record Valued (sw : Switches) (s : List ℕ) (kind : Kind) (i : ℕ) (slot : Slot) (k : TokenKind) (start stop a b : ℕ) : Type 0 where
   pub token : TokenAt sw s k start stop
   pub ahead : i ≤ start
   pub apart : b ≡ 0 → a ≡ 0
@@ -224,39 +218,47 @@ pub record Valued (sw : Switches) (s : List ℕ) (kind : Kind) (tab : List ℕ) 
   pub key : isObject kind ≡ true → KeyAt sw s a b content
   pub keys : List (List ℕ) → List (List ℕ)
   pub added : isObject kind ≡ true → (ks : List (List ℕ)) → keys ks ≡ ks ++ (content ∷ [])
-  pub ran : (limits : Limits) (l : Label) (ts : Forest) (ks : List (List ℕ)) (stack : List Frame) → Known sw s kind tab x m ks
+  pub ran : (limits : Limits) (l : Label) (ts : Forest) (ks : List (List ℕ)) (stack : List Frame) (m : ℕ)
       → runFrom sw limits s i (innerAt kind l ts ks stack m slot)
       ≡ unlessDuplicate (keyDuplicate kind a ks content) (openedHere sw limits s start stop true (spanAt a b) m (frame kind l ts (keys ks) ∷ stack))
 
 -- the end comes
-pub record Ends (sw : Switches) (s : List ℕ) (kind : Kind) (tab : List ℕ) (i x m : ℕ) (slot : Slot) (j : ℕ) : Type 0 where
+pub record Ends (sw : Switches) (s : List ℕ) (kind : Kind) (i : ℕ) (slot : Slot) (j : ℕ) : Type 0 where
   pub ahead : i < j
   pub inside : j ≤ length s
-  pub ran : (limits : Limits) (l : Label) (ts : Forest) (ks : List (List ℕ)) (stack : List Frame) → Known sw s kind tab x m ks
+  pub ran : (limits : Limits) (l : Label) (ts : Forest) (ks : List (List ℕ)) (stack : List Frame) (m : ℕ)
       → runFrom sw limits s i (innerAt kind l ts ks stack m slot) ≡ runFrom sw limits s j (ended stack m (l .name) (branch (headBy l j) kind ts))
 
 -- a refusal comes
-pub record Refuses (sw : Switches) (s : List ℕ) (kind : Kind) (tab : List ℕ) (i x m : ℕ) (slot : Slot) (number place : ℕ) : Type 0 where
-  pub ran : (limits : Limits) (l : Label) (ts : Forest) (ks : List (List ℕ)) (stack : List Frame) → Known sw s kind tab x m ks
+pub record Refuses (sw : Switches) (s : List ℕ) (kind : Kind) (i : ℕ) (slot : Slot) (number place : ℕ) : Type 0 where
+  pub ran : (limits : Limits) (l : Label) (ts : Forest) (ks : List (List ℕ)) (stack : List Frame) (m : ℕ)
       → runFrom sw limits s i (innerAt kind l ts ks stack m slot) ≡ refused number place
 
--- `Valued`, `Ends` or `Refuses`, by the code's answer
-abbrev pub ItemIs : Switches → List ℕ → Kind → List ℕ → (i x m : ℕ) → Slot → Item → Type 0
-ItemIs sw s kind tab i x m slot (I.Value t key) = Valued sw s kind tab i x m slot (t .kind) (t .span .start) (t .span .stop) (key .start) (key .stop)
-ItemIs sw s kind tab i x m slot (I.Last j) = Ends sw s kind tab i x m slot j
-ItemIs sw s kind tab i x m slot (I.Refused f) = Refuses sw s kind tab i x m slot (f .number) (f .place)
+-- a refusal comes after the key from a to b, unless this key is a duplicate
+pub record RefusesAfter (sw : Switches) (s : List ℕ) (kind : Kind) (i : ℕ) (slot : Slot) (number place a b : ℕ) : Type 0 where
+  pub content : List ℕ
+  pub key : KeyAt sw s a b content
+  pub ran : (limits : Limits) (l : Label) (ts : Forest) (ks : List (List ℕ)) (stack : List Frame) (m : ℕ)
+      → runFrom sw limits s i (innerAt kind l ts ks stack m slot) ≡ unlessDuplicate (keyDuplicate kind a ks content) (refused number place)
 
--- the same as a record, where a child or the end is due
-pub record ItemAt (sw : Switches) (s : List ℕ) (kind : Kind) (tab : List ℕ) (c : Children) (i : ℕ) (r : Item) : Type 0 where
-  pub is : ItemIs sw s kind tab i (c .first) (c .next) (slotOf (c .count)) r
+-- `Valued`, `Ends`, `Refuses` or `RefusesAfter`, by the code's answer
+abbrev pub ItemIs : Switches → List ℕ → Kind → (i : ℕ) → Slot → Item → Type 0
+ItemIs sw s kind i slot (I.Value t key) = Valued sw s kind i slot (t .kind) (t .span .start) (t .span .stop) (key .start) (key .stop)
+ItemIs sw s kind i slot (I.Last j) = Ends sw s kind i slot j
+ItemIs sw s kind i slot (I.Refused f) = Refuses sw s kind i slot (f .number) (f .place)
+ItemIs sw s kind i slot (I.RefusedAfter key f) = RefusesAfter sw s kind i slot (f .number) (f .place) (key .start) (key .stop)
+
+-- the same as a record, where a child or the end is due, of a container with z children
+pub record ItemAt (sw : Switches) (s : List ℕ) (kind : Kind) (z i : ℕ) (r : Item) : Type 0 where
+  pub is : ItemIs sw s kind i (slotOf z) r
+
+-- the same in an object, where it does not matter how many children there are
+pub record FieldAt (sw : Switches) (s : List ℕ) (i : ℕ) (r : Item) : Type 0 where
+  pub is : (z : ℕ) → ItemIs sw s Object i (slotOf z) r
 
 -- the same after the last child, if there is one
-pub record ChildAt (sw : Switches) (s : List ℕ) (kind : Kind) (tab : List ℕ) (c : Children) (i : ℕ) (r : Item) : Type 0 where
-  pub is : ItemIs sw s kind tab i (c .first) (c .next) (turnOf (c .count)) r
-
--- `ItemAt` for every table: the items of an array or a tuple do not hang on it
-pub record ElementAt (sw : Switches) (s : List ℕ) (kind : Kind) (z i : ℕ) (r : Item) : Type 0 where
-  pub is : (tab : List ℕ) (x m : ℕ) → ItemIs sw s kind tab i x m (slotOf z) r
+pub record ChildAt (sw : Switches) (s : List ℕ) (kind : Kind) (z i : ℕ) (r : Item) : Type 0 where
+  pub is : ItemIs sw s kind i (turnOf z) r
 
 -- ---- values
 
@@ -282,6 +284,10 @@ pub record Placed (s : List ℕ) (span : CS.Span) : Type 0 where
 -- a value that is due has no node left
 abbrev pub isFull : Limits → Due → Bool
 isFull limits due = due .fresh && leb (limits .nodes) (due .spot .node)
+
+-- the number by which a container that is due is refused where it opens, or 0
+abbrev pub openingRefusal : Limits → Due → ℕ
+openingRefusal limits due = cond (leb (limits .depth) (due .spot .depth)) 9 (cond (isFull limits due) 10 0)
 
 -- a value that holds no others, by its token: 7 where a container is due, 10
 unfoldable pub leafProgress : Limits → Due → CS.Span → Progress
@@ -327,6 +333,10 @@ pub record ReadAs (rules : Rules) (s : List ℕ) (due : Due) (span : CS.Span) (b
 
 -- ---- what comes late: a duplicate key is refused before all that stands after it
 
+-- the children so far, as the code knows them: in an object, their rows in the table from x to m
+pub record Known (sw : Switches) (s : List ℕ) (kind : Kind) (tab : List ℕ) (x m : ℕ) (ks : List (List ℕ)) : Type 0 where
+  pub siblings : isObject kind ≡ true → SiblingKeys sw s tab x m ks
+
 -- what a search for a container's duplicate keys is handed; no child is the root
 pub record Keys (sw : Switches) (s : List ℕ) (kind : Kind) (tab : List ℕ) (c : Children) : Type 0 where
   pub siblings : isObject kind ≡ true → HaveKeys sw s tab (c .first) (c .next)
@@ -346,8 +356,8 @@ pub record RefusedLate (sw : Switches) (s : List ℕ) (kind : Kind) (tab : List 
   pub is : (ks : List (List ℕ)) → Known sw s kind tab (c .first) (c .next) ks
       → refused (r .number) (r .place) ≡ unlessDuplicate (duplicateIn kind tab (c .first) ks) (refused (f .number) (f .place))
 
--- the same in the value with this key, which may itself be a duplicate
-pub record ChildRefusedLate (sw : Switches) (s : List ℕ) (kind : Kind) (tab : List ℕ) (c : Children) (key : CS.Span) (f r : Refusal) : Type 0 where
+-- the same after this key, or in its value; the key may itself be a duplicate
+pub record RefusedLateAfter (sw : Switches) (s : List ℕ) (kind : Kind) (tab : List ℕ) (c : Children) (key : CS.Span) (f r : Refusal) : Type 0 where
   pub is : (ks : List (List ℕ)) → Known sw s kind tab (c .first) (c .next) ks → (w : List ℕ) → (isObject kind ≡ true → KeyAt sw s (key .start) (key .stop) w)
       → refused (r .number) (r .place)
       ≡ unlessDuplicate (duplicateIn kind tab (c .first) ks) (unlessDuplicate (keyDuplicate kind (key .start) ks w) (refused (f .number) (f .place)))

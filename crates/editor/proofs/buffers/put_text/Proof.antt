@@ -1,9 +1,8 @@
--- made by tools/proof.py from answers/buffers/put_text (answers 6fb44a73ef5a, proof 89c9920588a7): edit that file, not this one
+-- made by tools/proof.py from answers/buffers/put_text (answers 22600d001630, proof 90305d4a71aa): edit that file, not this one
 use borrow.Author.Needs.{needs}
 use native.Mathlib.Omega.{arith}
 use mathlib.Core.Path.{ap, _∙_}
-use mathlib.Core.List.{List}
-use Prim.Native.Nat.{ℕ, _-_}
+use Prim.Native.Nat.{_-_}
 use lib.ListN.{length, replicate}
 use Rattle.editor.specs.Edit.{overwritten}
 use Rattle.editor.proofs.BufferLaws.{over-text}

@@ -1,8 +1,8 @@
--- made by tools/proof.py from answers/buffers/zero_out (answers f7a14ed9f95b, proof 38e6d1ae119f): edit that file, not this one
+-- made by tools/proof.py from answers/buffers/zero_out (answers e3fcedcd0816, proof 005839de9ee3): edit that file, not this one
 use native.Mathlib.Omega.{arith}
 use mathlib.Core.Path.{_≡_, refl, ap, _∙_}
 use mathlib.Core.List.{List}
-use Prim.Native.Nat.{ℕ, _≤_, _-_, _+_, max}
+use Prim.Native.Nat.{ℕ, _≤_, _-_, max}
 use lib.ListN.{length, set, replicate, length-set}
 use lib.Seq.{paste}
 use Rattle.editor.proofs.BufferLaws.{zero-start, zero-next, zero-whole}

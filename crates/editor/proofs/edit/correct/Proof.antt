@@ -1,7 +1,6 @@
--- made by tools/proof.py from answers/edit/correct (answers 3d6bac41199a, proof 34c4b23f4995): edit that file, not this one
+-- made by tools/proof.py from answers/edit/correct (answers 12886a00c77d, proof bd42033c891e): edit that file, not this one
 use borrow.Author.Needs.{needs}
 use native.Mathlib.Omega.{arith}
-use mathlib.Core.Path.{subst}
 use Rattle.editor.proofs.edit.correct.Statement.{statement}
 use Rattle.editor.proofs.edit.correct.Tie as tie
 

@@ -1,7 +1,6 @@
--- made by tools/proof.py from answers/edit/correct_edition (answers c4145e56f5f2, proof 1b049265c137): edit that file, not this one
+-- made by tools/proof.py from answers/edit/correct_edition (answers 12d32cac6de2, proof 49b8345525a8): edit that file, not this one
 use borrow.Author.Needs.{needs}
 use native.Mathlib.Omega.{arith}
-use mathlib.Core.Path.{_≡_, refl, sym, ap, _∙_}
 use lib.ListN.{length}
 use Rattle.editor.specs.Edit.{lentOf, correctionRefusal, withCorrection, correct}
 use Rattle.editor.proofs.CallLaws.{opens-taken, opens-stopped, opened-shows}

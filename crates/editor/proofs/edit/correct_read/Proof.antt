@@ -1,9 +1,7 @@
--- made by tools/proof.py from answers/edit/correct_read (answers 90ffc3b44b5e, proof 08d4bb81373d): edit that file, not this one
+-- made by tools/proof.py from answers/edit/correct_read (answers ed9b0103c1c8, proof 837d051e7720): edit that file, not this one
 use borrow.Author.Needs.{needs}
 use native.Mathlib.Omega.{arith}
-use mathlib.Core.Path.{_≡_, refl, sym, ap, _∙_}
-use Prim.Native.Nat.{ℕ, _+_, _*_, _≤_, _<_}
-use lib.ListN.{length}
+use mathlib.Core.Path.{sym, _∙_}
 use borrow.Author.Tests.{not-true, not-false}
 use Rattle.editor.specs.Edit.{lentOf}
 use Rattle.editor.proofs.CallLaws.{shows-refused}

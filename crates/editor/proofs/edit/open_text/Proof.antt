@@ -1,7 +1,7 @@
--- made by tools/proof.py from answers/edit/open_text (answers 22041bf52887, proof f4bfd5a799bc): edit that file, not this one
+-- made by tools/proof.py from answers/edit/open_text (answers ff01724b187c, proof 2db33e646e08): edit that file, not this one
 use borrow.Author.Needs.{needs}
 use native.Mathlib.Omega.{arith}
-use mathlib.Core.Path.{_≡_, refl, sym, ap, _∙_}
+use mathlib.Core.Path.{sym}
 use lib.ListN.{length}
 use lib.Seq.{length-take-le}
 use Rattle.editor.specs.Edit.{lentOf}

@@ -1,11 +1,10 @@
--- made by tools/proof.py from answers/edit/replace (answers f8c5e6f54afa, proof c7fa943d3332): edit that file, not this one
+-- made by tools/proof.py from answers/edit/replace (answers 6c4bbbc74696, proof 119434a52de6): edit that file, not this one
 use borrow.Author.Needs.{needs}
 use native.Mathlib.Omega.{arith}
-use mathlib.Core.Path.{_≡_, refl, sym, ap, _∙_}
-use Prim.Native.Nat.{ℕ, _+_, _-_, _≤_, min}
-use lib.ListN.{length, length-replicate}
+use mathlib.Core.Path.{refl, sym}
+use Prim.Native.Nat.{ℕ, _-_}
+use lib.ListN.{length-replicate}
 use lib.Seq.{length-take-le}
-use Rattle.editor.specs.Edit.{trailerBytes}
 use Rattle.editor.proofs.SpliceLaws.{length-part}
 use Rattle.editor.proofs.TrialLaws.{judged-room}
 use Rattle.editor.proofs.CorrectLaws.{text-short, replace-refused, replace-done}

@@ -1,7 +1,6 @@
--- made by tools/proof.py from answers/edit/undo (answers a4e25b31c687, proof 4ad259fd84e8): edit that file, not this one
+-- made by tools/proof.py from answers/edit/undo (answers ad712980815f, proof 04f53dc19d0f): edit that file, not this one
 use borrow.Author.Needs.{needs}
 use native.Mathlib.Omega.{arith}
-use mathlib.Core.Path.{subst}
 use Rattle.editor.proofs.edit.undo.Statement.{statement}
 use Rattle.editor.proofs.edit.undo.Tie as tie
 

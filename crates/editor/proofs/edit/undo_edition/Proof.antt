@@ -1,7 +1,6 @@
--- made by tools/proof.py from answers/edit/undo_edition (answers 3662c0b53403, proof 6838d55caaae): edit that file, not this one
+-- made by tools/proof.py from answers/edit/undo_edition (answers e03fc036d2d9, proof ebdfdb629502): edit that file, not this one
 use borrow.Author.Needs.{needs}
 use native.Mathlib.Omega.{arith}
-use mathlib.Core.Path.{_≡_, refl, sym, ap, _∙_}
 use lib.ListN.{length}
 use Rattle.editor.specs.Edit.{lentOf, undoRefusal, withUndo, undo}
 use Rattle.editor.proofs.CallLaws.{opens-taken, opens-stopped, opened-shows}

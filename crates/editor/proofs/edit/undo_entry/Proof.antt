@@ -1,9 +1,9 @@
--- made by tools/proof.py from answers/edit/undo_entry (answers a3c86d831a0d, proof b8ad116a1977): edit that file, not this one
+-- made by tools/proof.py from answers/edit/undo_entry (answers 8d0dd66f00c5, proof a3f13fb66127): edit that file, not this one
 use borrow.Author.Needs.{needs}
 use native.Mathlib.Omega.{arith}
-use mathlib.Core.Path.{_≡_, refl, sym, ap, _∙_}
-use Prim.Native.Nat.{ℕ, _+_, _-_, _≤_, min}
-use lib.ListN.{length, length-replicate}
+use mathlib.Core.Path.{sym}
+use Prim.Native.Nat.{ℕ, _-_}
+use lib.ListN.{length-replicate}
 use lib.Seq.{length-take-le}
 use Rattle.editor.proofs.TrialLaws.{judged-room}
 use Rattle.editor.proofs.UndoCallLaws.{undo-within, undo-refused, undo-done}

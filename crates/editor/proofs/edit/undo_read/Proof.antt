@@ -1,7 +1,7 @@
--- made by tools/proof.py from answers/edit/undo_read (answers de98254df11c, proof 790841a8b10a): edit that file, not this one
+-- made by tools/proof.py from answers/edit/undo_read (answers 7d0cccbebd14, proof e8bb668a5c64): edit that file, not this one
 use borrow.Author.Needs.{needs}
 use native.Mathlib.Omega.{arith}
-use mathlib.Core.Path.{_≡_, refl, sym, ap, _∙_}
+use mathlib.Core.Path.{sym, _∙_}
 use lib.Seq.{length-take-le}
 use Rattle.editor.specs.Edit.{lentOf, textOf, journalOf}
 use Rattle.editor.proofs.CallLaws.{shows-refused}

@@ -1,8 +1,7 @@
--- made by tools/proof.py from answers/journal/last_entry (answers 4f0de3667d98, proof 10709819f89c): edit that file, not this one
+-- made by tools/proof.py from answers/journal/last_entry (answers eb24cc3db2fe, proof e44c06424f34): edit that file, not this one
 use borrow.Author.Needs.{needs}
 use native.Mathlib.Omega.{arith}
-use mathlib.Core.Path.{_≡_, refl, sym, ap, _∙_}
-use Prim.Native.Nat.{_≤_, _<_, _+_, _-_}
+use Prim.Native.Nat.{_-_}
 use Rattle.editor.proofs.LastEntryLaws.{last-nothing, last-short, last-small, last-large, last-past, last-good}
 use Rattle.editor.proofs.journal.last_entry.Statement.{statement}
 use Rattle.editor.proofs.journal.last_entry.Tie as tie

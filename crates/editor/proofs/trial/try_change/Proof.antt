@@ -1,9 +1,8 @@
--- made by tools/proof.py from answers/trial/try_change (answers 407fc07ac11a, proof c8f2bae5e55c): edit that file, not this one
+-- made by tools/proof.py from answers/trial/try_change (answers a5235f69d5c1, proof 3be627b17776): edit that file, not this one
 use borrow.Author.Needs.{needs}
 use native.Mathlib.Omega.{arith}
-use mathlib.Core.Path.{_≡_, refl, sym, ap, _∙_}
-use Prim.Native.Nat.{ℕ, _+_, _-_, _≤_, min}
-use lib.ListN.{length}
+use mathlib.Core.Path.{refl, sym, _∙_}
+use Prim.Native.Nat.{_-_}
 use lib.Seq.{length-take-le}
 use Rattle.editor.specs.Edit.{textOf}
 use Rattle.editor.proofs.TrialLaws.{try-14, try-15, try-16, try-done}

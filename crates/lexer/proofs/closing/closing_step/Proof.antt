@@ -1,7 +1,6 @@
--- made by tools/proof.py from answers/closing/closing_step (answers 934d8994bc10, proof 38f3d7a0b348): edit that file, not this one
+-- made by tools/proof.py from answers/closing/closing_step (answers e7391cfa7037, proof 4b06bcbe3bf7): edit that file, not this one
 use borrow.Author.Needs.{needs}
 use native.Mathlib.Omega.{arith}
-use mathlib.Core.Path.{ap}
 use borrow.Author.Tests.{eq-eqb, ne-eqb}
 use native.Mathlib.Numerals.{add-one}
 use Rattle.lexer.specs.Closing.{closingStep}

@@ -1,7 +1,7 @@
--- made by tools/proof.py from answers/closing/find_block (answers 611cb4ef6d10, proof 251bce03d0bd): edit that file, not this one
+-- made by tools/proof.py from answers/closing/find_block (answers a734b2920b0e, proof c7ef3a4c8972): edit that file, not this one
 use borrow.Author.Needs.{needs}
 use native.Mathlib.Omega.{arith}
-use mathlib.Core.Path.{_≡_, refl, sym, ap, _∙_}
+use mathlib.Core.Path.{_≡_, refl, sym, _∙_}
 use Prim.Native.Nat.{_≤_, _-_, _+_}
 use lib.ListN.{length, drop}
 use Rattle.text.specs.Bytes.{feed}

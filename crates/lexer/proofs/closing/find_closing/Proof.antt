@@ -1,7 +1,7 @@
--- made by tools/proof.py from answers/closing/find_closing (answers 46a11695b53f, proof 6652accd717d): edit that file, not this one
+-- made by tools/proof.py from answers/closing/find_closing (answers 4697a5a00d45, proof 2ce2340d2dff): edit that file, not this one
 use borrow.Author.Needs.{needs}
 use native.Mathlib.Omega.{arith}
-use mathlib.Core.Path.{_≡_, refl, sym, ap, _∙_}
+use mathlib.Core.Path.{_≡_, sym, _∙_}
 use Prim.Native.Nat.{_≤_, _-_, _*_, _+_}
 use lib.ListN.{length, drop}
 use Rattle.text.specs.Bytes.{feed}

@@ -1,8 +1,8 @@
--- made by tools/proof.py from answers/closing/plain_end (answers aca7fbfdb370, proof abfeb48339dd): edit that file, not this one
+-- made by tools/proof.py from answers/closing/plain_end (answers b0ee638eb790, proof 34d79e75b2b6): edit that file, not this one
 use borrow.Author.Needs.{needs}
 use native.Mathlib.Omega.{arith}
-use mathlib.Core.Path.{_≡_, refl, sym, ap, _∙_}
-use Prim.Native.Nat.{_≤_, _-_, _+_}
+use mathlib.Core.Path.{_≡_, refl, sym, _∙_}
+use Prim.Native.Nat.{_-_, _+_}
 use lib.ListN.{length, drop}
 use borrow.Author.Tests.{eq-eqb, ne-eqb}
 use Rattle.text.specs.Bytes.{front}

@@ -1,8 +1,8 @@
--- made by tools/proof.py from answers/item/block_item (answers a4f873ed92a2, proof 03723e976064): edit that file, not this one
+-- made by tools/proof.py from answers/item/block_item (answers 7504a4b959e4, proof 3f86118bd2fb): edit that file, not this one
 use borrow.Author.Needs.{needs}
 use native.Mathlib.Omega.{arith}
 use mathlib.Core.Path.{sym, ap, _∙_}
-use lib.ListN.{length, drop, length-drop}
+use lib.ListN.{drop, length-drop}
 use Prim.Native.Nat.{_+_}
 use Rattle.lexer.specs.Token.{blockItem}
 use Rattle.lexer.specs.Answer.{found}

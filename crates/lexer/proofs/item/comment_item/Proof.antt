@@ -1,9 +1,8 @@
--- made by tools/proof.py from answers/item/comment_item (answers e94e0b45539f, proof 86c2b8bb62a9): edit that file, not this one
+-- made by tools/proof.py from answers/item/comment_item (answers 0bd39026aa68, proof 40524f677ed1): edit that file, not this one
 use borrow.Author.Needs.{needs}
 use native.Mathlib.Omega.{arith}
-use mathlib.Core.Path.{sym, ap, _∙_}
-use lib.ListN.{length}
-use Prim.Native.Nat.{_+_, _<_}
+use mathlib.Core.Path.{sym, _∙_}
+use Prim.Native.Nat.{_+_}
 use Rattle.text.proofs.ListLaws.{getD-inside}
 use Rattle.lexer.proofs.PlaceLaws.{line-found, block-found, slash-found}
 use Rattle.lexer.proofs.item.comment_item.Statement.{statement}

@@ -1,9 +1,9 @@
--- made by tools/proof.py from answers/item/item_by (answers 1268c966a62b, proof a6e5132a1674): edit that file, not this one
+-- made by tools/proof.py from answers/item/item_by (answers 51cf6504a0c1, proof 6a6f111be0b6): edit that file, not this one
 use borrow.Author.Needs.{needs}
 use native.Mathlib.Omega.{arith}
 use mathlib.Core.Path.{_≡_, refl, sym, ap, _∙_}
-use lib.ListN.{length, drop, getD}
-use Prim.Native.Nat.{ℕ, _+_, suc}
+use lib.ListN.{drop, getD}
+use Prim.Native.Nat.{_+_, suc}
 use borrow.Author.Tests.{eq-eqb, ne-eqb}
 use Rattle.text.specs.Bytes.{Class, oneOf}
 use Rattle.text.proofs.ClassLaws.{classAt}

@@ -1,8 +1,8 @@
--- made by tools/proof.py from answers/item/next_token (answers 35f961c3ff16, proof 0877ab5124b8): edit that file, not this one
+-- made by tools/proof.py from answers/item/next_token (answers 0a9eff633997, proof f383550cd7fb): edit that file, not this one
 use borrow.Author.Needs.{needs}
 use native.Mathlib.Omega.{arith}
 use mathlib.Core.Path.{_≡_, refl, sym, ap, _∙_}
-use Prim.Native.Nat.{_≤_, _-_, _+_}
+use Prim.Native.Nat.{_-_}
 use lib.ListN.{length}
 use Rattle.lexer.specs.Token.{tokensFrom}
 use Rattle.lexer.specs.Answer.{firstOf}

@@ -1,9 +1,8 @@
--- made by tools/proof.py from answers/item/number_item (answers f59f9907f1d0, proof 817f9b1e3995): edit that file, not this one
+-- made by tools/proof.py from answers/item/number_item (answers 393aba90dcc8, proof ce8c19719481): edit that file, not this one
 use borrow.Author.Needs.{needs}
 use native.Mathlib.Omega.{arith}
-use mathlib.Core.Path.{_≡_, refl, sym, ap, _∙_}
-use lib.ListN.{length, drop}
-use Prim.Native.Nat.{ℕ, _+_, _-_, suc, _≤_}
+use mathlib.Core.Path.{sym, ap, _∙_}
+use Prim.Native.Nat.{_+_, _-_}
 use lib.IntN.{ℤ}
 use mir.Facts.{toZ-ofZ}
 use mir.Syntax.{w64}

@@ -1,9 +1,9 @@
--- made by tools/proof.py from answers/item/string_item (answers 02ab57028584, proof a1fcec274f43): edit that file, not this one
+-- made by tools/proof.py from answers/item/string_item (answers 924b9428039b, proof 3b545cc7d5e0): edit that file, not this one
 use borrow.Author.Needs.{needs}
 use native.Mathlib.Omega.{arith}
-use mathlib.Core.Path.{_≡_, refl, sym, ap, _∙_}
-use lib.ListN.{length, drop, length-drop}
-use Prim.Native.Nat.{ℕ, _+_, _-_, suc, _≤_}
+use mathlib.Core.Path.{_≡_, sym, ap, _∙_}
+use lib.ListN.{drop, length-drop}
+use Prim.Native.Nat.{ℕ, _+_, _-_}
 use mathlib.Core.Bool.{Bool}
 use Rattle.lexer.specs.declared.closing.Closing.{Closing}
 use Rattle.lexer.specs.Closing.{closing}

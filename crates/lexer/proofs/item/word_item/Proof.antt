@@ -1,9 +1,8 @@
--- made by tools/proof.py from answers/item/word_item (answers bb4224fd9ea4, proof a9e6a1c1255d): edit that file, not this one
+-- made by tools/proof.py from answers/item/word_item (answers c21ff08cb7d1, proof 64d1f3f51982): edit that file, not this one
 use borrow.Author.Needs.{needs}
 use native.Mathlib.Omega.{arith}
-use mathlib.Core.Path.{_≡_, refl, sym, ap, _∙_}
-use lib.ListN.{length, drop}
-use Prim.Native.Nat.{ℕ, _+_, _-_, suc, _≤_}
+use mathlib.Core.Path.{sym, _∙_}
+use Prim.Native.Nat.{_+_, _-_}
 use Rattle.text.specs.Bytes.{isWordByte}
 use Rattle.lexer.proofs.PlaceLaws.{run-within, word-found, word-bad}
 use Rattle.lexer.proofs.item.word_item.Statement.{statement}

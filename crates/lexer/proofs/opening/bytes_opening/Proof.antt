@@ -1,12 +1,10 @@
--- made by tools/proof.py from answers/opening/bytes_opening (answers 04cbc4368320, proof 4bbe109d8be2): edit that file, not this one
+-- made by tools/proof.py from answers/opening/bytes_opening (answers 523e4f60ed07, proof 79cc072c2e7f): edit that file, not this one
 use borrow.Author.Needs.{needs}
 use native.Mathlib.Omega.{arith}
-use mathlib.Core.Path.{_≡_, sym, ap, _∙_}
-use lib.ListN.{drop}
-use Prim.Native.Nat.{ℕ, _+_}
+use mathlib.Core.Path.{_≡_, sym, _∙_}
+use Prim.Native.Nat.{_+_}
 use borrow.Author.Tests.{eq-eqb, ne-eqb}
 use Rattle.text.proofs.ListLaws.{getD-inside}
-use Rattle.lexer.specs.Opening.{rawOpening}
 use Rattle.lexer.proofs.OpeningLaws.{bytes-at}
 use Rattle.lexer.proofs.opening.bytes_opening.Statement.{statement}
 use Rattle.lexer.proofs.opening.bytes_opening.Tie as tie

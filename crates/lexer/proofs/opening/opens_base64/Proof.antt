@@ -1,9 +1,7 @@
--- made by tools/proof.py from answers/opening/opens_base64 (answers 1580a6f6871d, proof 2257ecd02ec4): edit that file, not this one
+-- made by tools/proof.py from answers/opening/opens_base64 (answers fb6f242ab4bf, proof 05f09f68fde0): edit that file, not this one
 use borrow.Author.Needs.{needs}
 use native.Mathlib.Omega.{arith}
-use mathlib.Core.Path.{_≡_, refl, sym, ap, _∙_}
-use mathlib.Core.Bool.{Bool, true, _&&_}
-use Prim.Native.Nat.{_+_}
+use mathlib.Core.Path.{sym, _∙_}
 use borrow.Author.Tests.{eq-eqb, ne-eqb, not-true, not-false}
 use Rattle.text.proofs.ListLaws.{getD-inside}
 use Rattle.lexer.proofs.OpeningLaws.{base64-at}

@@ -1,8 +1,8 @@
--- made by tools/proof.py from answers/opening/raw_opening (answers 315b87c80bb9, proof 6150a1021a2e): edit that file, not this one
+-- made by tools/proof.py from answers/opening/raw_opening (answers 27fce97383b4, proof 6745e0404c69): edit that file, not this one
 use borrow.Author.Needs.{needs}
 use native.Mathlib.Omega.{arith}
 use mathlib.Core.Path.{sym, _∙_}
-use Prim.Native.Nat.{_-_, _+_}
+use Prim.Native.Nat.{_-_}
 use borrow.Author.Tests.{eq-eqb, ne-eqb}
 use Rattle.text.proofs.ListLaws.{getD-inside}
 use Rattle.lexer.proofs.OpeningLaws.{raw-at}

@@ -1,7 +1,7 @@
--- made by tools/proof.py from answers/runs/hashes_end (answers b7132d567720, proof 43373aecda22): edit that file, not this one
+-- made by tools/proof.py from answers/runs/hashes_end (answers 48fa8c7abfbb, proof f609d79cc41e): edit that file, not this one
 use borrow.Author.Needs.{needs}
 use native.Mathlib.Omega.{arith}
-use mathlib.Core.Path.{_≡_, refl, sym, ap, _∙_}
+use mathlib.Core.Path.{_≡_, refl, sym, _∙_}
 use Prim.Native.Nat.{_-_, _+_}
 use lib.ListN.{length, drop}
 use borrow.Author.Tests.{eq-eqb, ne-eqb}

@@ -1,6 +1,5 @@
--- made by tools/proof.py from answers/runs/is_word_byte (answers 9676f648bbf6, proof bcf84584a24c): edit that file, not this one
+-- made by tools/proof.py from answers/runs/is_word_byte (answers 018552f9a191, proof 2d485b80fdd4): edit that file, not this one
 use native.Mathlib.Omega.{arith}
-use mathlib.Core.Path.{sym, _∙_}
 use borrow.Author.Tests.{le-leb, lt-leb}
 use Rattle.text.proofs.ClassLaws.{isWordClass, word-class}
 use Rattle.lexer.proofs.runs.is_word_byte.Statement.{statement}

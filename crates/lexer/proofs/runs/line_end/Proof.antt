@@ -1,7 +1,7 @@
--- made by tools/proof.py from answers/runs/line_end (answers aebe678c43e8, proof 6b36044b91f9): edit that file, not this one
+-- made by tools/proof.py from answers/runs/line_end (answers a4d7c27fc37f, proof 56e2e5c7800a): edit that file, not this one
 use borrow.Author.Needs.{needs}
 use native.Mathlib.Omega.{arith}
-use mathlib.Core.Path.{_≡_, refl, sym, ap, _∙_}
+use mathlib.Core.Path.{_≡_, refl, sym, _∙_}
 use Prim.Native.Nat.{_-_, _+_}
 use lib.ListN.{length, drop}
 use borrow.Author.Tests.{eq-eqb, ne-eqb}

@@ -1,7 +1,7 @@
--- made by tools/proof.py from answers/runs/number_end (answers 330c9e69a9dd, proof ab5857d0e228): edit that file, not this one
+-- made by tools/proof.py from answers/runs/number_end (answers 91ec3ce0d2a9, proof a3aaab82a9de): edit that file, not this one
 use borrow.Author.Needs.{needs}
 use native.Mathlib.Omega.{arith}
-use mathlib.Core.Path.{_≡_, refl, sym, ap, _∙_}
+use mathlib.Core.Path.{_≡_, refl, sym, _∙_}
 use Prim.Native.Nat.{_-_, _+_}
 use lib.ListN.{length, drop}
 use borrow.Author.Tests.{not-true, not-false}

@@ -1,7 +1,7 @@
--- made by tools/proof.py from answers/runs/word_end (answers 4f53a183456d, proof e59bb72c2042): edit that file, not this one
+-- made by tools/proof.py from answers/runs/word_end (answers 49efdf772184, proof 1888799a939f): edit that file, not this one
 use borrow.Author.Needs.{needs}
 use native.Mathlib.Omega.{arith}
-use mathlib.Core.Path.{_≡_, refl, sym, ap, _∙_}
+use mathlib.Core.Path.{_≡_, refl, sym, _∙_}
 use Prim.Native.Nat.{_-_, _+_}
 use lib.ListN.{length, drop}
 use borrow.Author.Tests.{not-true, not-false}

@@ -1,6 +1,6 @@
--- made by tools/proof.py from answers/token/is_key (answers e9bff961ac39, proof 85558ca65eb3): edit that file, not this one
+-- made by tools/proof.py from answers/token/is_key (answers d559fa62fea3, proof 6029b5dae41f): edit that file, not this one
 use borrow.Author.Needs.{needs}
-use mathlib.Core.Path.{sym, ap, _∙_}
+use mathlib.Core.Path.{sym, ap}
 use Rattle.lexer.specs.Internal.{isKey}
 use Rattle.lexer.proofs.token.is_key.Statement.{statement}
 use Rattle.lexer.proofs.token.is_key.Tie as tie

@@ -1,10 +1,9 @@
--- made by tools/proof.py from answers/token/part_of (answers ad29288bf983, proof 15b23ae6fa0a): edit that file, not this one
+-- made by tools/proof.py from answers/token/part_of (answers 07e836ec38dd, proof 33bd0c40e171): edit that file, not this one
 use borrow.Author.Needs.{needs}
 use native.Mathlib.Omega.{arith}
 use mathlib.Core.Path.{sym, ap, _∙_}
-use Prim.Native.Nat.{ℕ}
 use lib.ListN.{length}
-use Rattle.lexer.specs.Opening.{openingOf, openedPart, partOf}
+use Rattle.lexer.specs.Opening.{openedPart, partOf}
 use Rattle.lexer.proofs.OpeningLaws.{head-within}
 use Rattle.lexer.proofs.token.part_of.Statement.{statement}
 use Rattle.lexer.proofs.token.part_of.Tie as tie

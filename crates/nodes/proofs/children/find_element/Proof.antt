@@ -1,9 +1,7 @@
--- made by tools/proof.py from answers/children/find_element (answers 2f4c039c3a47, proof e7805c055121): edit that file, not this one
+-- made by tools/proof.py from answers/children/find_element (answers bab4c63fe4d0, proof 143cdd99fea5): edit that file, not this one
 use borrow.Author.Needs.{needs}
 use native.Mathlib.Omega.{arith}
-use mathlib.Core.Path.{sym, _∙_}
-use Prim.Native.Nat.{_<_, _+_, _*_, _-_}
-use lib.ListN.{length}
+use Prim.Native.Nat.{_-_}
 use Rattle.nodes.proofs.WalkLaws.{walk-less}
 use Rattle.nodes.proofs.ChildLaws.{stands-word, ElementWalk, element-start, element-hit, element-on, element-end}
 use Rattle.nodes.proofs.children.find_element.Statement.{statement}

@@ -1,9 +1,7 @@
--- made by tools/proof.py from answers/children/find_member (answers 4775f6db26f5, proof 55564c83faca): edit that file, not this one
+-- made by tools/proof.py from answers/children/find_member (answers 22ca3532f50d, proof 59769dc942ce): edit that file, not this one
 use borrow.Author.Needs.{needs}
 use native.Mathlib.Omega.{arith}
-use mathlib.Core.Path.{sym, _∙_}
-use Prim.Native.Nat.{_<_, _+_, _*_, _-_}
-use lib.ListN.{length}
+use Prim.Native.Nat.{_-_}
 use Rattle.nodes.specs.Nodes.{hasKey}
 use Rattle.nodes.proofs.WalkLaws.{walk-less}
 use Rattle.nodes.proofs.ChildLaws.{stands-word, FirstWalk, first-start, member-hit, member-on, member-end}

@@ -1,7 +1,7 @@
--- made by tools/proof.py from answers/contents/span_content_is (answers b4858d4c40de, proof 037e9b04ebf2): edit that file, not this one
+-- made by tools/proof.py from answers/contents/span_content_is (answers c51cc2182ed5, proof 9b0abbd167bd): edit that file, not this one
 use borrow.Author.Needs.{needs}
 use native.Mathlib.Omega.{arith}
-use mathlib.Core.Path.{sym, _∙_}
+use mathlib.Core.Path.{_∙_}
 use Rattle.nodes.proofs.ContentLaws.{backwards, past, long, spanned}
 use Rattle.nodes.proofs.contents.span_content_is.Statement.{statement}
 use Rattle.nodes.proofs.contents.span_content_is.Tie as tie

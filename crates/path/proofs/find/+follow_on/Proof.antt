@@ -1,9 +1,9 @@
--- made by tools/proof.py from answers/find/+follow_on (answers 7594bb8b951e, proof 502ffeb5f5aa): edit that file, not this one
+-- made by tools/proof.py from answers/find/+follow_on (answers 2380ca7ebc02, proof 91a7df26a48f): edit that file, not this one
 use borrow.Author.Needs.{needs}
 use native.Mathlib.Omega.{arith}
-use mathlib.Core.Path.{refl, sym, _∙_}
-use Prim.Native.Nat.{_≤_, _-_, _+_, _*_}
-use lib.ListN.{length, take, drop}
+use mathlib.Core.Path.{sym}
+use Prim.Native.Nat.{_-_}
+use lib.ListN.{length}
 use lib.Seq.{length-take-le}
 use Rattle.path.specs.Path.{pieces}
 use Rattle.lexer.proofs.ItemCases.{front-le}

@@ -1,8 +1,8 @@
--- made by tools/proof.py from answers/duplicates/duplicate_by_walk (answers 9267a39f5f53, proof 9940c4ac1213): edit that file, not this one
+-- made by tools/proof.py from answers/duplicates/duplicate_by_walk (answers d9bf967a6012, proof 32494e56a391): edit that file, not this one
 use borrow.Author.Needs.{needs}
 use native.Mathlib.Omega.{arith}
-use mathlib.Core.Path.{_≡_, refl, sym, _∙_}
-use Prim.Native.Nat.{ℕ, _≤_, _-_}
+use mathlib.Core.Path.{_≡_, sym, _∙_}
+use Prim.Native.Nat.{ℕ, _-_}
 use lib.ListN.{length, length-replicate, length-set}
 use Rattle.reader.proofs.FewRun.{Few, few-start, few-walked, few-end, few-next, few-key, few-kept, few-forward, few-hit, few-on}
 use Rattle.reader.proofs.duplicates.duplicate_by_walk.Statement.{statement}

@@ -1,10 +1,10 @@
--- made by tools/proof.py from answers/duplicates/duplicate_from (answers 447f1b76091c, proof 895676cf51f2): edit that file, not this one
+-- made by tools/proof.py from answers/duplicates/duplicate_from (answers d3c6f6699bc3, proof e0daddc246ea): edit that file, not this one
 use borrow.Author.Needs.{needs}
 use native.Mathlib.Omega.{arith}
 use mathlib.Core.Path.{sym, _∙_}
-use mathlib.Core.List.{List, []}
-use Prim.Native.Nat.{ℕ, _≤_, _-_}
-use Rattle.reader.proofs.DuplicateLaws.{Past, past-start, past-row, past-key, past-have-keys, past-on, past-hit, past-end}
+use mathlib.Core.List.{List}
+use Prim.Native.Nat.{ℕ, _-_}
+use Rattle.reader.proofs.DuplicateLaws.{Past, past-row, past-key, past-have-keys, past-on, past-hit, past-end}
 use Rattle.reader.proofs.FewRun.{past-of}
 use Rattle.reader.proofs.duplicates.duplicate_from.Statement.{statement}
 use Rattle.reader.proofs.duplicates.duplicate_from.Tie as tie

@@ -1,8 +1,7 @@
--- made by tools/proof.py from answers/duplicates/is_kept (answers 84475cbb6320, proof 4d28b56fd460): edit that file, not this one
+-- made by tools/proof.py from answers/duplicates/is_kept (answers 814a82f45c7f, proof 7ec926c28c50): edit that file, not this one
 use borrow.Author.Needs.{needs}
 use native.Mathlib.Omega.{arith}
-use mathlib.Core.Path.{_≡_, refl, sym, _∙_}
-use Prim.Native.Nat.{ℕ, _≤_, _-_, _+_}
+use Prim.Native.Nat.{_-_}
 use Rattle.reader.proofs.FewRun.{Search, search-start, search-row, search-on, search-hit, search-end}
 use Rattle.reader.proofs.duplicates.is_kept.Statement.{statement}
 use Rattle.reader.proofs.duplicates.is_kept.Tie as tie

@@ -1,8 +1,7 @@
--- made by tools/proof.py from answers/duplicates/keep_key (answers 376746364e6c, proof 1383e84a7a11): edit that file, not this one
+-- made by tools/proof.py from answers/duplicates/keep_key (answers bab4f9508327, proof be80f87e254e): edit that file, not this one
 use borrow.Author.Needs.{needs}
 use native.Mathlib.Omega.{arith}
-use mathlib.Core.Path.{_≡_, refl, sym, _∙_}
-use Prim.Native.Nat.{ℕ, _≤_}
+use mathlib.Core.Path.{_∙_}
 use Rattle.lexer.proofs.PartLaws.{part-content}
 use Rattle.reader.proofs.KeyWalk.{keyed, key-part}
 use Rattle.reader.proofs.FewRun.{before-kept, copied-behind, copied-long}

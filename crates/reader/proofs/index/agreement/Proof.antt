@@ -1,8 +1,8 @@
--- made by tools/proof.py from answers/index/agreement (answers 49381d83b6fd, proof fdebdebae7a1): edit that file, not this one
+-- made by tools/proof.py from answers/index/agreement (answers f8fea0f5fa5e, proof 61191780e932): edit that file, not this one
 use borrow.Author.Needs.{needs}
 use native.Mathlib.Omega.{arith}
-use mathlib.Core.Path.{_≡_, refl, sym, ap, _∙_}
-use Prim.Native.Nat.{ℕ, _≤_, _-_, _+_}
+use mathlib.Core.Path.{_≡_, sym, _∙_}
+use Prim.Native.Nat.{_≤_, _-_, _+_}
 use lib.ListN.{length, drop}
 use Rattle.reader.specs.Internal.Index.{agreed}
 use Rattle.reader.proofs.PrefixLaws.{agreed-on, agreed-not, agreed-end}

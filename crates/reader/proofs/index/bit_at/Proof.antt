@@ -1,7 +1,7 @@
--- made by tools/proof.py from answers/index/bit_at (answers bd1fb4f235ed, proof 8a8f68c2e08b): edit that file, not this one
+-- made by tools/proof.py from answers/index/bit_at (answers 6348b49dd687, proof 9be3e83ea877): edit that file, not this one
 use borrow.Author.Needs.{needs}
 use native.Mathlib.Omega.{arith}
-use mathlib.Core.Path.{_≡_, ap, _∙_}
+use mathlib.Core.Path.{ap, _∙_}
 use Prim.Native.Nat.{ℕ, _/_, _%_, _^_}
 use Rattle.reader.specs.Internal.Index.{bitAt}
 use Rattle.reader.proofs.index.bit_at.Statement.{statement}

@@ -1,5 +1,5 @@
--- made by tools/proof.py from answers/index/duplicate_by_index (answers 2b3fd487bf5b, proof 100658a8e328): edit that file, not this one
-use mathlib.Core.Path.{_≡_, refl, sym}
+-- made by tools/proof.py from answers/index/duplicate_by_index (answers 0992bb808efb, proof 904dd05e1472): edit that file, not this one
+use mathlib.Core.Path.{sym}
 use Prim.Native.Nat.{ℕ}
 use lib.ListN.{length-replicate}
 use Rattle.reader.proofs.IndexRun.{vacant}

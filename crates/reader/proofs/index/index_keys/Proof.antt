@@ -1,8 +1,8 @@
--- made by tools/proof.py from answers/index/index_keys (answers 45bd845dfc33, proof 3f0d268283c2): edit that file, not this one
+-- made by tools/proof.py from answers/index/index_keys (answers adda3f22fa09, proof 105d8323c983): edit that file, not this one
 use borrow.Author.Needs.{needs}
 use native.Mathlib.Omega.{arith}
-use mathlib.Core.Path.{_≡_, refl, sym, ap, _∙_}
-use Prim.Native.Nat.{ℕ, _≤_, _-_}
+use mathlib.Core.Path.{_≡_, sym, _∙_}
+use Prim.Native.Nat.{ℕ, _-_}
 use lib.ListN.{length, length-replicate}
 use lib.Seq.{length-take-le}
 use Rattle.reader.specs.Internal.Index.{keyBytes}

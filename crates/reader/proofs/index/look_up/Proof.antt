@@ -1,9 +1,8 @@
--- made by tools/proof.py from answers/index/look_up (answers 371787bdf8fc, proof 654358038a32): edit that file, not this one
+-- made by tools/proof.py from answers/index/look_up (answers a35f67503777, proof f38fee643946): edit that file, not this one
 use borrow.Author.Needs.{needs}
 use native.Mathlib.Omega.{arith}
-use mathlib.Core.Path.{_≡_, refl, sym, ap, _∙_}
-use Prim.Native.Nat.{ℕ, _≤_}
-use lib.ListN.{length, take}
+use mathlib.Core.Path.{sym}
+use lib.ListN.{take}
 use lib.Seq.{length-take-le}
 use Rattle.reader.proofs.LookupLaws.{look-place, look-none, look-key, look-short, look-known, look-fresh}
 use Rattle.reader.proofs.index.look_up.Statement.{statement}

@@ -1,9 +1,8 @@
--- made by tools/proof.py from answers/index/miss_of (answers 6fd8da56ee3a, proof 8521f4ed9538): edit that file, not this one
+-- made by tools/proof.py from answers/index/miss_of (answers 077cc5912428, proof 20576abf36b8): edit that file, not this one
 use borrow.Author.Needs.{needs}
 use native.Mathlib.Omega.{arith}
-use mathlib.Core.Path.{_≡_, ap}
+use mathlib.Core.Path.{ap}
 use Prim.Native.Nat.{ℕ, _+_, _/_, _%_}
-use lib.ListN.{getD}
 use Rattle.reader.specs.Internal.Index.{missOf}
 use Rattle.reader.proofs.PrefixLaws.{bit-low}
 use Rattle.reader.proofs.index.miss_of.Statement.{statement}

@@ -1,7 +1,7 @@
--- made by tools/proof.py from answers/index/test_of (answers c4cff7e31a78, proof 1a89c3f36d10): edit that file, not this one
+-- made by tools/proof.py from answers/index/test_of (answers 148b55da919b, proof a278aaa3dcfa): edit that file, not this one
 use borrow.Author.Needs.{needs}
 use native.Mathlib.Omega.{arith}
-use mathlib.Core.Path.{_≡_, refl, sym, ap, _∙_, subst}
+use mathlib.Core.Path.{sym, subst}
 use Prim.Native.Nat.{ℕ, _+_, _*_, _/_, _%_, _^_}
 use Rattle.reader.specs.Internal.Index.{TellsBy}
 use Rattle.reader.proofs.PrefixLaws.{tells-bit, below-two}

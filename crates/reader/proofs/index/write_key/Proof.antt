@@ -1,8 +1,7 @@
--- made by tools/proof.py from answers/index/write_key (answers cef35270c021, proof dbe28a80f6ff): edit that file, not this one
+-- made by tools/proof.py from answers/index/write_key (answers 2f0ff3ae8af9, proof fb681de2a80c): edit that file, not this one
 use borrow.Author.Needs.{needs}
 use native.Mathlib.Omega.{arith}
-use mathlib.Core.Path.{_≡_, refl, sym, _∙_}
-use Prim.Native.Nat.{ℕ, _≤_}
+use mathlib.Core.Path.{_∙_}
 use lib.ListN.{length-set}
 use Rattle.lexer.proofs.PartLaws.{part-content}
 use Rattle.reader.proofs.KeyWalk.{keyed, key-part}

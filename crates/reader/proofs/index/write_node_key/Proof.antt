@@ -1,7 +1,6 @@
--- made by tools/proof.py from answers/index/write_node_key (answers 7ffe6f01e180, proof 778b9a8635aa): edit that file, not this one
+-- made by tools/proof.py from answers/index/write_node_key (answers 86e77af57f4d, proof bb889c8a84eb): edit that file, not this one
 use borrow.Author.Needs.{needs}
 use native.Mathlib.Omega.{arith}
-use mathlib.Core.Path.{_≡_, sym}
 use Rattle.reader.proofs.LookupLaws.{node-here, node-written}
 use Rattle.reader.proofs.index.write_node_key.Statement.{statement}
 use Rattle.reader.proofs.index.write_node_key.Tie as tie

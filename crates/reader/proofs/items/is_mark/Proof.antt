@@ -1,6 +1,6 @@
--- made by tools/proof.py from answers/items/is_mark (answers e14fc2cb6880, proof b4c80397758e): edit that file, not this one
+-- made by tools/proof.py from answers/items/is_mark (answers 07eeb6f931c5, proof 318e03f47b88): edit that file, not this one
 use borrow.Author.Needs.{needs}
-use mathlib.Core.Path.{sym, ap, _∙_}
+use mathlib.Core.Path.{sym, ap}
 use Rattle.lexer.specs.declared.item.TokenKind.{TokenKind}
 use Rattle.reader.specs.Internal.Ahead.{markIs}
 use Rattle.reader.proofs.items.is_mark.Statement.{statement}

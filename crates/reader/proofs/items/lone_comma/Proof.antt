@@ -1,6 +1,6 @@
--- made by tools/proof.py from answers/items/lone_comma (answers 09a024055d7e, proof b1da3171de27): edit that file, not this one
+-- made by tools/proof.py from answers/items/lone_comma (answers a2489fbfe70b, proof 7d3d8b733041): edit that file, not this one
 use borrow.Author.Needs.{needs}
-use mathlib.Core.Path.{sym, ap, _∙_}
+use mathlib.Core.Path.{sym, ap}
 use Rattle.reader.specs.Syntax.{emptyByComma}
 use Rattle.reader.proofs.items.lone_comma.Statement.{statement}
 use Rattle.reader.proofs.items.lone_comma.Tie as tie

@@ -1,4 +1,4 @@
--- made by tools/proof.py from answers/items/next_element (answers b8de21bd7b09, proof f84bf119bbce): edit that file, not this one
+-- made by tools/proof.py from answers/items/next_element (answers f86c853d5157, proof 5273d7635613): edit that file, not this one
 use borrow.Author.Needs.{needs}
 use mathlib.Core.Path.{sym, ap, _∙_}
 use Rattle.reader.specs.Internal.Ahead.{markIs, onlyAt}
@@ -22,7 +22,7 @@ is-mark-requires c κs = search needs
 returns : tie.Need-returns
 returns c =
     let the-args = c .before .before .before .before .before .before .before .before .args in
-    record { is = λ tab x m. item-last (the-args .sw) (the-args .text .now) (the-args .kind) tab (the-args .from) x m _ _ _ _ (ahead-token (the-args .sw) (the-args .text .now) (the-args .from) _ (c .before .before .before .before .before .before .before .before .pre .0) (sym (c .before .before .before .before .before .token-from .ensures) ∙ c .before .before .before .token .given .1)) (ap (markIs _) (sym (c .before .before .before .before .before .before .closer-of .ensures)) ∙ sym (c .before .is-mark .ensures) ∙ c .if1 .taken) }
+    record { is = item-last (the-args .sw) (the-args .text .now) (the-args .kind) (the-args .from) _ _ _ _ (ahead-token (the-args .sw) (the-args .text .now) (the-args .from) _ (c .before .before .before .before .before .before .before .before .pre .0) (sym (c .before .before .before .before .before .token-from .ensures) ∙ c .before .before .before .token .given .1)) (ap (markIs _) (sym (c .before .before .before .before .before .before .closer-of .ensures)) ∙ sym (c .before .is-mark .ensures) ∙ c .if1 .taken) }
 
 opens-empty-requires : tie.Need-opens-empty-requires
 opens-empty-requires c κs = search needs
@@ -43,7 +43,7 @@ returns-2 c =
     let the-token-from = c .before .before .before .before .before .before .before .before .before .before .before .token-from in
     let the-token = c .before .before .before .before .before .before .before .before .before .token in
     let the-closer-of = c .before .before .before .before .before .before .before .before .before .before .before .before .closer-of in
-    record { is = λ tab x m. item-lone (the-args .sw) (the-args .text .now) (the-args .kind) tab (the-args .from) x m (the-args .count) _ _ _ (ahead-token (the-args .sw) (the-args .text .now) (the-args .from) _ (the-pre .0) (sym (the-token-from .ensures) ∙ the-token .given .1)) (ap (markIs _) (sym (the-closer-of .ensures)) ∙ sym (c .before .before .before .before .before .before .before .is-mark .ensures) ∙ c .before .before .before .before .before .before .if1 .left) (sym (c .before .before .before .before .before .opens-empty .ensures) ∙ c .before .before .before .before .if2 .taken) _ (mark-at ((ahead-token (the-args .sw) (the-args .text .now) (the-args .from) _ (the-pre .0) (sym (the-token-from .ensures) ∙ the-token .given .1)) .token .inside) (c .before .stop .given .1) (c .before .before .before .one-mark .ensures ∙ ap (onlyAt (the-args .sw) (the-args .text .now) (the-token .given .0 .0 .span .stop)) (the-closer-of .ensures))) }
+    record { is = item-lone (the-args .sw) (the-args .text .now) (the-args .kind) (the-args .from) (the-args .count) _ _ _ (ahead-token (the-args .sw) (the-args .text .now) (the-args .from) _ (the-pre .0) (sym (the-token-from .ensures) ∙ the-token .given .1)) (ap (markIs _) (sym (the-closer-of .ensures)) ∙ sym (c .before .before .before .before .before .before .before .is-mark .ensures) ∙ c .before .before .before .before .before .before .if1 .left) (sym (c .before .before .before .before .before .opens-empty .ensures) ∙ c .before .before .before .before .if2 .taken) _ (mark-at ((ahead-token (the-args .sw) (the-args .text .now) (the-args .from) _ (the-pre .0) (sym (the-token-from .ensures) ∙ the-token .given .1)) .token .inside) (c .before .stop .given .1) (c .before .before .before .one-mark .ensures ∙ ap (onlyAt (the-args .sw) (the-args .text .now) (the-token .given .0 .0 .span .stop)) (the-closer-of .ensures))) }
 
 returns-3 : tie.Need-returns-3
 returns-3 c =
@@ -52,7 +52,7 @@ returns-3 c =
     let the-token-from = c .before .before .before .before .before .before .before .before .before .before .before .token-from in
     let the-token = c .before .before .before .before .before .before .before .before .before .token in
     let the-closer-of = c .before .before .before .before .before .before .before .before .before .before .before .before .closer-of in
-    record { is = λ tab x m. item-lone-not (the-args .sw) (the-args .text .now) (the-args .kind) tab (the-args .from) x m (the-args .count) _ _ _ (ahead-token (the-args .sw) (the-args .text .now) (the-args .from) _ (the-pre .0) (sym (the-token-from .ensures) ∙ the-token .given .1)) (ap (markIs _) (sym (the-closer-of .ensures)) ∙ sym (c .before .before .before .before .before .before .before .is-mark .ensures) ∙ c .before .before .before .before .before .before .if1 .left) (sym (c .before .before .before .before .before .opens-empty .ensures) ∙ c .before .before .before .before .if2 .taken) _ _ (mark-refused ((ahead-token (the-args .sw) (the-args .text .now) (the-args .from) _ (the-pre .0) (sym (the-token-from .ensures) ∙ the-token .given .1)) .token .inside) (c .before .refusal .given .1) (c .before .before .before .one-mark .ensures ∙ ap (onlyAt (the-args .sw) (the-args .text .now) (the-token .given .0 .0 .span .stop)) (the-closer-of .ensures))) }
+    record { is = item-lone-not (the-args .sw) (the-args .text .now) (the-args .kind) (the-args .from) (the-args .count) _ _ _ (ahead-token (the-args .sw) (the-args .text .now) (the-args .from) _ (the-pre .0) (sym (the-token-from .ensures) ∙ the-token .given .1)) (ap (markIs _) (sym (the-closer-of .ensures)) ∙ sym (c .before .before .before .before .before .before .before .is-mark .ensures) ∙ c .before .before .before .before .before .before .if1 .left) (sym (c .before .before .before .before .before .opens-empty .ensures) ∙ c .before .before .before .before .if2 .taken) _ _ (mark-refused ((ahead-token (the-args .sw) (the-args .text .now) (the-args .from) _ (the-pre .0) (sym (the-token-from .ensures) ∙ the-token .given .1)) .token .inside) (c .before .refusal .given .1) (c .before .before .before .one-mark .ensures ∙ ap (onlyAt (the-args .sw) (the-args .text .now) (the-token .given .0 .0 .span .stop)) (the-closer-of .ensures))) }
 
 enum-known-refusal-2 : tie.Need-enum-known-refusal-2
 enum-known-refusal-2 c = search needs
@@ -61,12 +61,12 @@ returns-4 : tie.Need-returns-4
 returns-4 c =
     let the-args = c .before .before .before .before .before .before .before .before .before .before .args in
     let the-pre = c .before .before .before .before .before .before .before .before .before .before .pre in
-    record { is = λ tab x m. item-value (the-args .sw) (the-args .text .now) (the-args .kind) tab (the-args .from) x m (the-args .count) _ _ _ (ahead-token (the-args .sw) (the-args .text .now) (the-args .from) _ (the-pre .0) (sym (c .before .before .before .before .before .before .before .token-from .ensures) ∙ c .before .before .before .before .before .token .given .1)) (the-pre .1) (ap (markIs _) (sym (c .before .before .before .before .before .before .before .before .closer-of .ensures)) ∙ sym (c .before .before .before .is-mark .ensures) ∙ c .before .before .if1 .left) (sym (c .before .opens-empty .ensures) ∙ c .if2 .left) }
+    record { is = item-value (the-args .sw) (the-args .text .now) (the-args .kind) (the-args .from) (the-args .count) _ _ _ (ahead-token (the-args .sw) (the-args .text .now) (the-args .from) _ (the-pre .0) (sym (c .before .before .before .before .before .before .before .token-from .ensures) ∙ c .before .before .before .before .before .token .given .1)) (the-pre .1) (ap (markIs _) (sym (c .before .before .before .before .before .before .before .before .closer-of .ensures)) ∙ sym (c .before .before .before .is-mark .ensures) ∙ c .before .before .if1 .left) (sym (c .before .opens-empty .ensures) ∙ c .if2 .left) }
 
 returns-5 : tie.Need-returns-5
 returns-5 c =
     let the-args = c .before .before .before .before .before .before .args in
-    record { is = λ tab x m. item-none (the-args .sw) (the-args .text .now) (the-args .kind) tab (the-args .from) x m _ _ (sym (c .before .before .before .token-from .ensures) ∙ c .before .refusal2 .given .1) }
+    record { is = item-none (the-args .sw) (the-args .text .now) (the-args .kind) (the-args .from) _ _ (sym (c .before .before .before .token-from .ensures) ∙ c .before .refusal2 .given .1) }
 
 pub next-element-spec : {M : Type 1} → statement M
 next-element-spec =

@@ -1,6 +1,6 @@
--- made by tools/proof.py from answers/items/opens_empty (answers ed24f034f0df, proof 712288fd7cbc): edit that file, not this one
+-- made by tools/proof.py from answers/items/opens_empty (answers f763abc0d27a, proof f048959a385d): edit that file, not this one
 use borrow.Author.Needs.{needs}
-use mathlib.Core.Path.{sym, ap, _∙_}
+use mathlib.Core.Path.{sym, _∙_}
 use borrow.Author.Tests.{eq-eqb, ne-eqb}
 use Rattle.reader.proofs.items.opens_empty.Statement.{statement}
 use Rattle.reader.proofs.items.opens_empty.Tie as tie

@@ -1,8 +1,8 @@
--- made by tools/proof.py from answers/keys/find_key (answers 13309276b116, proof 5db085794a5f): edit that file, not this one
+-- made by tools/proof.py from answers/keys/find_key (answers 5eeb1410d63b, proof 07d66ba0b84d): edit that file, not this one
 use borrow.Author.Needs.{needs}
 use native.Mathlib.Omega.{arith}
-use mathlib.Core.Path.{_≡_, refl, sym, _∙_}
-use Prim.Native.Nat.{_≤_, _-_, _+_}
+use mathlib.Core.Path.{_≡_, sym, _∙_}
+use Prim.Native.Nat.{_-_}
 use Rattle.reader.specs.Internal.Values.{KeyHere}
 use mathlib.Core.Option.{some}
 use Rattle.literals.specs.Content.{content}

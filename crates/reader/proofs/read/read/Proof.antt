@@ -1,8 +1,5 @@
--- made by tools/proof.py from answers/read/read (answers c6b75bc964f7, proof b61e40e74622): edit that file, not this one
+-- made by tools/proof.py from answers/read/read (answers 9ddb8dbecd7f, proof 9d455f35d133): edit that file, not this one
 use borrow.Author.Needs.{needs}
-use mathlib.Core.Path.{subst}
-use lib.ListN.{length}
-use Rattle.text.specs.declared.switches.Switches.{Switches}
 use Rattle.reader.proofs.read.read.Statement.{statement}
 use Rattle.reader.proofs.read.read.Tie as tie
 

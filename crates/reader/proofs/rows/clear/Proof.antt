@@ -1,9 +1,9 @@
--- made by tools/proof.py from answers/rows/clear (answers 282b9dc960c3, proof 06879f8aaf12): edit that file, not this one
+-- made by tools/proof.py from answers/rows/clear (answers e4b7eace5b0e, proof 679337e6b7c4): edit that file, not this one
 use borrow.Author.Needs.{needs}
 use native.Mathlib.Omega.{arith}
 use borrow.Author.Fill.{fill-none, fill-more}
 use mathlib.Core.Path.{_≡_, refl, ap, _∙_}
-use mathlib.Core.List.{List, [], _++_, append-nil}
+use mathlib.Core.List.{List, _++_, append-nil}
 use Prim.Native.Nat.{ℕ, _≤_, _-_}
 use native.Mathlib.Nat.{le-refl}
 use lib.ListN.{length, set, replicate, drop, length-set, drop-of-length-le}

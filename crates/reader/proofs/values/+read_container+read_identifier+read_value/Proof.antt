@@ -1,7 +1,7 @@
--- made by tools/proof.py from answers/values/+read_container+read_identifier+read_value (answers dc19d6a46f12, proof 79603dd00a77): edit that file, not this one
+-- made by tools/proof.py from answers/values/+read_container+read_identifier+read_value (answers 11155aa1d519, proof 86aded319856): edit that file, not this one
 use borrow.Author.Needs.{needs}
 use native.Mathlib.Omega.{arith}
-use mathlib.Core.Path.{_≡_, refl, sym, _∙_}
+use mathlib.Core.Path.{_≡_, sym, _∙_}
 use mathlib.Core.List.{List, []}
 use Prim.Native.Nat.{ℕ, _+_, _*_, _-_}
 use lib.ListN.{length}
@@ -12,7 +12,7 @@ use Rattle.reader.specs.Syntax.{container}
 use Rattle.reader.specs.Internal.Values.{labelOf, opened, ChildAt}
 use Rattle.reader.proofs.StepRun.{past-token}
 use Rattle.reader.proofs.ItemRun.{mark-at, mark-refused}
-use Rattle.reader.proofs.BodyRun.{Within, read-is, value-refused, due-as, begins-as, value-is, last-is, item-refused, fresh-read, fresh-refused, fresh-ready, body-look, body-value, body-last, body-keys, body-child-keys, body-item-refused, body-child-refused, body-ended, node-left, open-deep, open-full, body-start}
+use Rattle.reader.proofs.BodyRun.{Within, read-is, value-refused, due-as, begins-as, value-is, last-is, item-refused, field-refused, fresh-read, fresh-refused, fresh-ready, body-value, body-last, body-keys, body-child-keys, body-item-refused, body-field-refused, body-child-refused, body-ended, opens, opens-node, opens-not, first-is, body-start}
 use Rattle.reader.proofs.ValueRun.{begun-as, leaf-read, nothing-refused, named-ready, name-twice, name-full, name-not, name-refused, name-shut-not, name-read}
 use Prim.Native.Nat.{ℕ, _<_}
 use borrow.Fn.Kinds.{In}
@@ -30,12 +30,13 @@ use Rattle.reader.proofs.begin.begin_of.Reads as begin-of-reads
 use Rattle.reader.proofs.items.next_child.Reads as next-child-reads
 use Rattle.reader.proofs.items.one_mark.Reads as one-mark-reads
 use Rattle.reader.proofs.items.token_after.Reads as token-after-reads
-use Rattle.reader.proofs.late.child_refusal.Reads as child-refusal-reads
+use Rattle.reader.proofs.late.late_after.Reads as late-after-reads
 use Rattle.reader.proofs.late.late_refusal.Reads as late-refusal-reads
 use Rattle.reader.proofs.rows.put_stop.Reads as put-stop-reads
 use Rattle.reader.proofs.values.child_due.Reads as child-due-reads
-use Rattle.reader.proofs.values.is_full.Reads as is-full-reads
 use Rattle.reader.proofs.values.named_due.Reads as named-due-reads
+use Rattle.reader.proofs.values.no_children.Reads as no-children-reads
+use Rattle.reader.proofs.values.opening_refusal.Reads as opening-refusal-reads
 use Rattle.reader.proofs.values.put_branch.Reads as put-branch-reads
 use Rattle.reader.proofs.values.put_leaf.Reads as put-leaf-reads
 use Rattle.reader.proofs.values.+read_container+read_identifier+read_value.{statement}
@@ -92,7 +93,7 @@ read-value-below t =
 
 -- what `read_container` knows of what it calls, below the measure t
 abbrev read-container-calls : ℕ → read-container-lts.Claims
-read-container-calls t = (is-full-reads.Asked, is-full-reads.Learnt, next-child-reads.Asked, next-child-reads.Learnt, late-refusal-reads.Asked, late-refusal-reads.Learnt, put-branch-reads.Asked, put-branch-reads.Learnt, child-due-reads.Asked, child-due-reads.Learnt, read-value-below t, read-value.Post, child-refusal-reads.Asked, child-refusal-reads.Learnt)
+read-container-calls t = (opening-refusal-reads.Asked, opening-refusal-reads.Learnt, no-children-reads.Asked, no-children-reads.Learnt, next-child-reads.Asked, next-child-reads.Learnt, late-refusal-reads.Asked, late-refusal-reads.Learnt, late-after-reads.Asked, late-after-reads.Learnt, put-branch-reads.Asked, put-branch-reads.Learnt, child-due-reads.Asked, child-due-reads.Learnt, read-value-below t, read-value.Post)
 
 -- what `read_identifier` knows of what it calls, below the measure t
 abbrev read-identifier-calls : ℕ → read-identifier-lts.Claims
@@ -103,45 +104,55 @@ abbrev read-value-calls : ℕ → read-value-lts.Claims
 read-value-calls t = (begin-of-reads.Asked, begin-of-reads.Learnt, read-container-below t, read-container.Post, put-leaf-reads.Asked, put-leaf-reads.Learnt, read-identifier-below t, read-identifier.Post)
 
 abbrev read-container-Inv-loop : read-container-lts.InvT-loop
-read-container-Inv-loop rules text table₀ due kind place spot first from₀ children₀ item₀ table from children item = (ts : Forest) × (ks : List (List ℕ)) × (children .first ≡ due .spot .node + 1) × Within (rules .sw) (rules .limits) text kind (labelOf (due .label)) (opened (rules .sw) (rules .limits) text place from₀ (due .fresh) (due .any) (labelOf (due .label)) (due .spot .node) (container kind)) place (due .spot .depth) (due .spot .node) table₀ ts ks from (children .next) (children .count) table × ChildAt (rules .sw) text kind table children from item
+read-container-Inv-loop rules text table₀ due kind place number spot from₀ children₀ item₀ table from children item = (ts : Forest) × (ks : List (List ℕ)) × (children .first ≡ due .spot .node + 1) × Within (rules .sw) (rules .limits) text kind (labelOf (due .label)) (opened (rules .sw) (rules .limits) text place from₀ (due .fresh) (due .any) (labelOf (due .label)) (due .spot .node) (container kind)) place (due .spot .depth) (due .spot .node) table₀ ts ks from (children .next) (children .count) table × ChildAt (rules .sw) text kind (children .count) from item
 
 abbrev read-container-μ-loop : read-container-lts.MeasureT-loop
-read-container-μ-loop rules text table₀ due kind place spot first from₀ children₀ item₀ table from children item = length text - from
+read-container-μ-loop rules text table₀ due kind place number spot from₀ children₀ item₀ table from children item = length text - from
+
+read-container-opening-refusal-requires :
+    (t : ℕ) → read-container-lts.Need-opening-refusal-requires (
+      opening-refusal-reads.Asked,
+      opening-refusal-reads.Learnt,
+      no-children-reads.Asked,
+      no-children-reads.Learnt,
+      next-child-reads.Asked,
+      next-child-reads.Learnt,
+      late-refusal-reads.Asked,
+      late-refusal-reads.Learnt,
+      late-after-reads.Asked,
+      late-after-reads.Learnt,
+      put-branch-reads.Asked,
+      put-branch-reads.Learnt,
+      child-due-reads.Asked,
+      child-due-reads.Learnt,
+      read-value-below t,
+      read-value.Post,
+    ) (read-container-at t) read-container.Post read-container-Inv-loop read-container-μ-loop
+read-container-opening-refusal-requires t c κs = search needs
 
 read-container-returns : (t : ℕ) → read-container-lts.Need-returns (read-container-calls t) (read-container-at t) read-container.Post read-container-Inv-loop read-container-μ-loop
 read-container-returns t c =
-    let the-args = c .before .before .before .before .before .before .args in
-    record { is = open-deep _ _ _ _ _ (the-args .due .fresh) (the-args .due .any) _ _ _ (the-args .kind) (c .if1 .taken) _ }
+    let the-args = c .before .before .before .before .args in
+    opens-not (the-args .rules) (the-args .text .now) (the-args .due) (the-args .bracket) (the-args .kind) _ (c .before .opening-refusal .ensures) (c .if1 .taken)
 
-read-container-is-full-requires : (t : ℕ) → read-container-lts.Need-is-full-requires (read-container-calls t) (read-container-at t) read-container.Post read-container-Inv-loop read-container-μ-loop
-read-container-is-full-requires t c κs = search needs
+read-container-add-no-children : (t : ℕ) → read-container-lts.Need-add-no-children (read-container-calls t) (read-container-at t) read-container.Post read-container-Inv-loop read-container-μ-loop
+read-container-add-no-children t c =
+    let the-pre = c .before .before .before .before .before .before .pre in
+    let w = opens-node (opens (c .before .before .before .opening-refusal .ensures) (c .before .before .if1 .left)) (the-pre .1 .0) in omega (arith, the-pre .1 .0 .table .small)
 
-read-container-returns-2 : (t : ℕ) → read-container-lts.Need-returns-2 (read-container-calls t) (read-container-at t) read-container.Post read-container-Inv-loop read-container-μ-loop
-read-container-returns-2 t c =
-    let the-args = c .before .before .before .before .before .before .before .before .args in
-    record { is = open-full _ _ _ _ _ (the-args .due .fresh) (the-args .due .any) _ _ _ (the-args .kind) (c .before .before .if1 .left) (sym (c .before .is-full .ensures) ∙ c .if2 .taken) _ }
-
-read-container-add-first : (t : ℕ) → read-container-lts.Need-add-first (read-container-calls t) (read-container-at t) read-container.Post read-container-Inv-loop read-container-μ-loop
-read-container-add-first t c =
-    let the-args = c .before .before .before .before .before .before .before .before .before .args in
-    let the-pre = c .before .before .before .before .before .before .before .before .before .pre in
-    let w = node-left _ (the-args .due .fresh) (the-args .due .spot .node) (sym (c .before .before .is-full .ensures) ∙ c .before .if2 .left) (the-pre .1 .0 .counted) in omega (arith, the-pre .1 .0 .table .small)
+read-container-no-children-requires : (t : ℕ) → read-container-lts.Need-no-children-requires (read-container-calls t) (read-container-at t) read-container.Post read-container-Inv-loop read-container-μ-loop
+read-container-no-children-requires t c κs = search needs
 
 read-container-next-child-requires : (t : ℕ) → read-container-lts.Need-next-child-requires (read-container-calls t) (read-container-at t) read-container.Post read-container-Inv-loop read-container-μ-loop
 read-container-next-child-requires t c κs =
-    let the-pre = c .before .before .before .before .before .before .before .before .before .before .pre in
-    let the-args = c .before .before .before .before .before .before .before .before .before .before .args in
-    let the-is-full = c .before .before .before .is-full in
-    let the-if2 = c .before .before .if2 in
-    body-look refl (the-pre .1 .1 .short) (body-start (the-args .rules .sw) (the-args .rules .limits) (the-args .text .now) (the-args .bracket .start) (the-args .bracket .stop) (the-args .due .fresh) (the-args .due .any) (labelOf (the-args .due .label)) (the-args .due .spot .node) (the-args .due .spot .depth) (the-args .kind) _ (c .before .before .before .before .if1 .left) (sym (the-is-full .ensures) ∙ the-if2 .left) (node-left _ (the-args .due .fresh) (the-args .due .spot .node) (sym (the-is-full .ensures) ∙ the-if2 .left) (the-pre .1 .0 .counted)) (the-pre .1 .1 .ordered) (the-pre .1 .1 .inside) (the-pre .1 .0 .table .room))
+    let the-pre = c .before .before .before .before .before .before .before .pre in
+    (the-pre .1 .1 .inside, the-pre .1 .1 .short)
 
 read-container-loop-holds : (t : ℕ) → read-container-lts.Need-loop-holds (read-container-calls t) (read-container-at t) read-container.Post read-container-Inv-loop read-container-μ-loop
 read-container-loop-holds t c =
-    let the-args = c .before .before .before .before .before .before .before .before .before .before .before .args in
-    let the-is-full = c .before .before .before .before .is-full in
-    let the-if2 = c .before .before .before .if2 in
-    let the-pre = c .before .before .before .before .before .before .before .before .before .before .before .pre in
-    (nil, [], refl, body-start (the-args .rules .sw) (the-args .rules .limits) (the-args .text .now) (the-args .bracket .start) (the-args .bracket .stop) (the-args .due .fresh) (the-args .due .any) (labelOf (the-args .due .label)) (the-args .due .spot .node) (the-args .due .spot .depth) (the-args .kind) _ (c .before .before .before .before .before .if1 .left) (sym (the-is-full .ensures) ∙ the-if2 .left) (node-left _ (the-args .due .fresh) (the-args .due .spot .node) (sym (the-is-full .ensures) ∙ the-if2 .left) (the-pre .1 .0 .counted)) (the-pre .1 .1 .ordered) (the-pre .1 .1 .inside) (the-pre .1 .0 .table .room), c .next-child .ensures)
+    let the-args = c .before .before .before .before .before .before .before .before .args in
+    let the-pre = c .before .before .before .before .before .before .before .before .pre in
+    (nil, [], first-is (c .before .no-children .ensures), body-start (the-args .rules) (the-args .text .now) (the-args .due) (the-args .bracket) (the-args .kind) _ (c .before .no-children .ensures) (opens (c .before .before .before .before .before .opening-refusal .ensures) (c .before .before .before .before .if1 .left)) (the-pre .1 .0) (the-pre .1 .1), c .next-child .ensures)
 
 read-container-enum-known-item : (t : ℕ) → read-container-lts.Need-enum-known-item (read-container-calls t) (read-container-at t) read-container.Post read-container-Inv-loop read-container-μ-loop
 read-container-enum-known-item t c = search needs
@@ -149,50 +160,66 @@ read-container-enum-known-item t c = search needs
 read-container-late-refusal-requires : (t : ℕ) → read-container-lts.Need-late-refusal-requires (read-container-calls t) (read-container-at t) read-container.Post read-container-Inv-loop read-container-μ-loop
 read-container-late-refusal-requires t c κs =
     let the-loop = c .before .before .before .before .loop in
-    body-keys (the-loop .inv .2) (c .before .before .before .before .before .before .before .before .before .before .before .before .before .before .before .before .pre .1 .0 .table .small) (the-loop .inv .3)
+    body-keys (the-loop .inv .2) (c .before .before .before .before .before .before .before .before .before .before .before .before .before .pre .1 .0 .table .small) (the-loop .inv .3)
 
 read-container-same-length : (t : ℕ) → read-container-lts.Need-same-length (read-container-calls t) (read-container-at t) read-container.Post read-container-Inv-loop read-container-μ-loop
 read-container-same-length t c = c .before .before .before .before .before .loop .inv .3 .long
 
-read-container-returns-3 : (t : ℕ) → read-container-lts.Need-returns-3 (read-container-calls t) (read-container-at t) read-container.Post read-container-Inv-loop read-container-μ-loop
-read-container-returns-3 t c =
+read-container-returns-2 : (t : ℕ) → read-container-lts.Need-returns-2 (read-container-calls t) (read-container-at t) read-container.Post read-container-Inv-loop read-container-μ-loop
+read-container-returns-2 t c =
     let the-loop = c .before .before .before .before .before .loop in
-    record { is = body-item-refused (the-loop .inv .2) (the-loop .inv .3) (item-refused (the-loop .inv .2) (c .before .before .before .item .given .1) (the-loop .inv .4)) (c .late-refusal .ensures) }
+    record { is = body-item-refused (the-loop .inv .2) (the-loop .inv .3) (item-refused (c .before .before .before .item .given .1) (the-loop .inv .4)) (c .late-refusal .ensures) }
 
 read-container-enum-known-item-2 : (t : ℕ) → read-container-lts.Need-enum-known-item-2 (read-container-calls t) (read-container-at t) read-container.Post read-container-Inv-loop read-container-μ-loop
 read-container-enum-known-item-2 t c = search needs
 
-read-container-put-branch-requires : (t : ℕ) → read-container-lts.Need-put-branch-requires (read-container-calls t) (read-container-at t) read-container.Post read-container-Inv-loop read-container-μ-loop
-read-container-put-branch-requires t c κs =
+read-container-late-after-requires : (t : ℕ) → read-container-lts.Need-late-after-requires (read-container-calls t) (read-container-at t) read-container.Post read-container-Inv-loop read-container-μ-loop
+read-container-late-after-requires t c κs =
     let the-loop = c .before .before .before .before .loop in
-    let the-pre = c .before .before .before .before .before .before .before .before .before .before .before .before .before .before .before .before .pre in
-    let L = last-is (the-loop .inv .2) (c .before .before .item2 .given .1) (the-loop .inv .4) in (
-      body-keys (the-loop .inv .2) (the-pre .1 .0 .table .small) (the-loop .inv .3),
-      (record { row = omega (arith, the-loop .inv .3 .grew, the-loop .inv .3 .below, the-loop .inv .3 .room, the-loop .inv .3 .long); stop-low = omega (arith, L .inside, the-pre .1 .1 .short); next-low = omega (arith, the-loop .inv .3 .below, the-pre .1 .0 .table .small) }, omega (arith, the-loop .inv .3 .few)),
-    )
+    (body-keys (the-loop .inv .2) (c .before .before .before .before .before .before .before .before .before .before .before .before .before .pre .1 .0 .table .small) (the-loop .inv .3), let F = field-refused (c .before .before .item2 .given .1) (the-loop .inv .4) in record { here = λ e. record { content = F .content; key = F .key } })
 
 read-container-same-length-2 : (t : ℕ) → read-container-lts.Need-same-length-2 (read-container-calls t) (read-container-at t) read-container.Post read-container-Inv-loop read-container-μ-loop
-read-container-same-length-2 t c = c .before .before .put-branch .kept .1 .1 .0 ∙ c .before .before .before .before .before .before .before .loop .inv .3 .long
+read-container-same-length-2 t c = c .before .before .before .before .before .loop .inv .3 .long
 
-read-container-returns-4 : (t : ℕ) → read-container-lts.Need-returns-4 (read-container-calls t) (read-container-at t) read-container.Post read-container-Inv-loop read-container-μ-loop
-read-container-returns-4 t c =
-    let the-loop = c .before .before .before .before .before .before .before .loop in
-    body-ended (c .before .before .before .before .before .before .before .before .before .before .before .before .before .before .before .before .before .before .before .pre .1 .0 .label) (the-loop .inv .2) (body-last (the-loop .inv .3) (last-is (the-loop .inv .2) (c .before .before .before .before .before .item2 .given .1) (the-loop .inv .4))) (c .before .before .put-branch .ensures)
+read-container-returns-3 : (t : ℕ) → read-container-lts.Need-returns-3 (read-container-calls t) (read-container-at t) read-container.Post read-container-Inv-loop read-container-μ-loop
+read-container-returns-3 t c =
+    let the-loop = c .before .before .before .before .before .loop in
+    record { is = body-field-refused (the-loop .inv .2) (the-loop .inv .3) (field-refused (c .before .before .before .item2 .given .1) (the-loop .inv .4)) (c .late-after .ensures) }
 
 read-container-enum-known-item-3 : (t : ℕ) → read-container-lts.Need-enum-known-item-3 (read-container-calls t) (read-container-at t) read-container.Post read-container-Inv-loop read-container-μ-loop
 read-container-enum-known-item-3 t c = search needs
 
+read-container-put-branch-requires : (t : ℕ) → read-container-lts.Need-put-branch-requires (read-container-calls t) (read-container-at t) read-container.Post read-container-Inv-loop read-container-μ-loop
+read-container-put-branch-requires t c κs =
+    let the-loop = c .before .before .before .before .loop in
+    let the-pre = c .before .before .before .before .before .before .before .before .before .before .before .before .before .pre in
+    let L = last-is (c .before .before .item3 .given .1) (the-loop .inv .4) in (
+      body-keys (the-loop .inv .2) (the-pre .1 .0 .table .small) (the-loop .inv .3),
+      (record { row = omega (arith, the-loop .inv .3 .grew, the-loop .inv .3 .below, the-loop .inv .3 .room, the-loop .inv .3 .long); stop-low = omega (arith, L .inside, the-pre .1 .1 .short); next-low = omega (arith, the-loop .inv .3 .below, the-pre .1 .0 .table .small) }, omega (arith, the-loop .inv .3 .few)),
+    )
+
+read-container-same-length-3 : (t : ℕ) → read-container-lts.Need-same-length-3 (read-container-calls t) (read-container-at t) read-container.Post read-container-Inv-loop read-container-μ-loop
+read-container-same-length-3 t c = c .before .before .put-branch .kept .1 .1 .0 ∙ c .before .before .before .before .before .before .before .loop .inv .3 .long
+
+read-container-returns-4 : (t : ℕ) → read-container-lts.Need-returns-4 (read-container-calls t) (read-container-at t) read-container.Post read-container-Inv-loop read-container-μ-loop
+read-container-returns-4 t c =
+    let the-loop = c .before .before .before .before .before .before .before .loop in
+    body-ended (c .before .before .before .before .before .before .before .before .before .before .before .before .before .before .before .before .pre .1 .0 .label) (the-loop .inv .2) (body-last (the-loop .inv .3) (last-is (c .before .before .before .before .before .item3 .given .1) (the-loop .inv .4))) (c .before .before .put-branch .ensures)
+
+read-container-enum-known-item-4 : (t : ℕ) → read-container-lts.Need-enum-known-item-4 (read-container-calls t) (read-container-at t) read-container.Post read-container-Inv-loop read-container-μ-loop
+read-container-enum-known-item-4 t c = search needs
+
 read-container-child-due-requires : (t : ℕ) → read-container-lts.Need-child-due-requires (read-container-calls t) (read-container-at t) read-container.Post read-container-Inv-loop read-container-μ-loop
-read-container-child-due-requires t c κs = let w = node-left _ (c .before .before .before .before .before .before .before .before .before .before .before .before .before .before .before .args .due .fresh) (c .before .before .before .before .before .before .before .before .before .before .before .before .before .before .before .args .due .spot .node) (sym (c .before .before .before .before .before .before .before .before .is-full .ensures) ∙ c .before .before .before .before .before .before .before .if2 .left) (c .before .before .before .before .before .before .before .before .before .before .before .before .before .before .before .pre .1 .0 .counted) in let I = value-is (c .before .before .before .loop .inv .2) (c .before .item3 .given .1) (c .before .before .before .loop .inv .4) in
-    ((omega (arith, c .before .before .before .before .before .before .before .before .before .if1 .left), omega (arith, c .before .before .before .before .before .before .before .before .before .before .before .before .before .before .before .pre .1 .0 .table .small)), (omega (arith, I .token .ordered, I .token .inside, c .before .before .before .before .before .before .before .before .before .before .before .before .before .before .before .pre .1 .1 .short), record { start-low = I .short .0; stop-low = I .short .1 }))
+read-container-child-due-requires t c κs = let o = opens {limits = c .before .before .before .before .before .before .before .before .before .before .before .before .args .rules .limits} {due = c .before .before .before .before .before .before .before .before .before .before .before .before .args .due} (c .before .before .before .before .before .before .before .before .before .opening-refusal .ensures) (c .before .before .before .before .before .before .before .before .if1 .left) in let w = opens-node o (c .before .before .before .before .before .before .before .before .before .before .before .before .pre .1 .0) in let I = value-is (c .before .item4 .given .1) (c .before .before .before .loop .inv .4) in
+    ((omega (arith, o .shallow, c .before .before .before .before .before .before .before .before .before .before .before .before .good .0), omega (arith, c .before .before .before .before .before .before .before .before .before .before .before .before .pre .1 .0 .table .small)), (omega (arith, I .token .ordered, I .token .inside, c .before .before .before .before .before .before .before .before .before .before .before .before .pre .1 .1 .short), record { start-low = I .short .0; stop-low = I .short .1 }))
 
 read-container-read-value-requires : (t : ℕ) → read-container-lts.Need-read-value-requires (read-container-calls t) (read-container-at t) read-container.Post read-container-Inv-loop read-container-μ-loop
 read-container-read-value-requires t c κs =
+    let the-item4 = c .before .before .before .item4 in
     let the-loop = c .before .before .before .before .before .loop in
-    let the-item3 = c .before .before .before .item3 in
-    let the-pre = c .before .before .before .before .before .before .before .before .before .before .before .before .before .before .before .before .before .pre in
-    let I = value-is (the-loop .inv .2) (the-item3 .given .1) (the-loop .inv .4) in
-    let g : 2 * (length (c .before .before .before .before .before .before .before .before .before .before .before .before .before .before .before .before .before .args .text .now) - the-item3 .given .0 .0 .span .start) + 1 < t = omega (arith, the-pre .0, I .ahead, I .token .ordered, I .token .inside, the-loop .inv .3 .ahead) in (
+    let the-pre = c .before .before .before .before .before .before .before .before .before .before .before .before .before .before .pre in
+    let I = value-is (the-item4 .given .1) (the-loop .inv .4) in
+    let g : 2 * (length (c .before .before .before .before .before .before .before .before .before .before .before .before .before .before .args .text .now) - the-item4 .given .0 .0 .span .start) + 1 < t = omega (arith, the-pre .0, I .ahead, I .token .ordered, I .token .inside, the-loop .inv .3 .ahead) in (
       g,
       (
         fresh-ready (c .before .child-due .ensures) (record { room = omega (arith, the-loop .inv .3 .room, the-loop .inv .3 .long); small = the-pre .1 .0 .table .small }) (the-loop .inv .3 .below) (I .apart),
@@ -203,42 +230,42 @@ read-container-read-value-requires t c κs =
 read-container-enum-known-refusal : (t : ℕ) → read-container-lts.Need-enum-known-refusal (read-container-calls t) (read-container-at t) read-container.Post read-container-Inv-loop read-container-μ-loop
 read-container-enum-known-refusal t c = search needs
 
-read-container-child-refusal-requires : (t : ℕ) → read-container-lts.Need-child-refusal-requires (read-container-calls t) (read-container-at t) read-container.Post read-container-Inv-loop read-container-μ-loop
-read-container-child-refusal-requires t c κs =
+read-container-late-after-requires-2 : (t : ℕ) → read-container-lts.Need-late-after-requires-2 (read-container-calls t) (read-container-at t) read-container.Post read-container-Inv-loop read-container-μ-loop
+read-container-late-after-requires-2 t c κs =
     let the-loop = c .before .before .before .before .before .before .before .before .before .before .before .before .loop in
     let the-read-value = c .before .before .before .before .before .before .read-value in
-    let the-item3 = c .before .before .before .before .before .before .before .before .before .before .item3 in
-    (body-child-keys (the-loop .inv .2) (c .before .before .before .before .before .before .before .before .before .before .before .before .before .before .before .before .before .before .before .before .before .before .before .before .pre .1 .0 .table .small) (the-loop .inv .3) (fresh-refused (c .before .before .before .before .before .before .before .before .child-due .ensures) (c .before .before .refusal .given .1) (the-read-value .ensures)) (the-read-value .kept .1 .1 .0), record { here = λ e. record { content = (value-is (the-loop .inv .2) (the-item3 .given .1) (the-loop .inv .4)) .content; key = (value-is (the-loop .inv .2) (the-item3 .given .1) (the-loop .inv .4)) .key e } })
+    let the-item4 = c .before .before .before .before .before .before .before .before .before .before .item4 in
+    (body-child-keys (the-loop .inv .2) (c .before .before .before .before .before .before .before .before .before .before .before .before .before .before .before .before .before .before .before .before .before .pre .1 .0 .table .small) (the-loop .inv .3) (fresh-refused (c .before .before .before .before .before .before .before .before .child-due .ensures) (c .before .before .refusal .given .1) (the-read-value .ensures)) (the-read-value .kept .1 .1 .0), record { here = λ e. record { content = (value-is (the-item4 .given .1) (the-loop .inv .4)) .content; key = (value-is (the-item4 .given .1) (the-loop .inv .4)) .key e } })
 
-read-container-same-length-3 : (t : ℕ) → read-container-lts.Need-same-length-3 (read-container-calls t) (read-container-at t) read-container.Post read-container-Inv-loop read-container-μ-loop
-read-container-same-length-3 t c = c .before .before .before .before .before .before .before .read-value .kept .1 .1 .0 ∙ c .before .before .before .before .before .before .before .before .before .before .before .before .before .loop .inv .3 .long
+read-container-same-length-4 : (t : ℕ) → read-container-lts.Need-same-length-4 (read-container-calls t) (read-container-at t) read-container.Post read-container-Inv-loop read-container-μ-loop
+read-container-same-length-4 t c = c .before .before .before .before .before .before .before .read-value .kept .1 .1 .0 ∙ c .before .before .before .before .before .before .before .before .before .before .before .before .before .loop .inv .3 .long
 
 read-container-returns-5 : (t : ℕ) → read-container-lts.Need-returns-5 (read-container-calls t) (read-container-at t) read-container.Post read-container-Inv-loop read-container-μ-loop
 read-container-returns-5 t c =
     let the-loop = c .before .before .before .before .before .before .before .before .before .before .before .before .before .loop in
     let the-read-value = c .before .before .before .before .before .before .before .read-value in
-    record { is = body-child-refused (the-loop .inv .2) (the-loop .inv .3) (value-is (the-loop .inv .2) (c .before .before .before .before .before .before .before .before .before .before .before .item3 .given .1) (the-loop .inv .4)) (fresh-refused (c .before .before .before .before .before .before .before .before .before .child-due .ensures) (c .before .before .before .refusal .given .1) (the-read-value .ensures)) (the-read-value .kept .1 .1 .0) (c .child-refusal .ensures) }
+    record { is = body-child-refused (the-loop .inv .2) (the-loop .inv .3) (value-is (c .before .before .before .before .before .before .before .before .before .before .before .item4 .given .1) (the-loop .inv .4)) (fresh-refused (c .before .before .before .before .before .before .before .before .before .child-due .ensures) (c .before .before .before .refusal .given .1) (the-read-value .ensures)) (the-read-value .kept .1 .1 .0) (c .late-after2 .ensures) }
 
 read-container-enum-known-stop : (t : ℕ) → read-container-lts.Need-enum-known-stop (read-container-calls t) (read-container-at t) read-container.Post read-container-Inv-loop read-container-μ-loop
 read-container-enum-known-stop t c = search needs
 
 read-container-add-children : (t : ℕ) → read-container-lts.Need-add-children (read-container-calls t) (read-container-at t) read-container.Post read-container-Inv-loop read-container-μ-loop
-read-container-add-children t c = omega (arith, c .before .before .before .before .before .before .before .before .before .before .before .before .loop .inv .3 .few, c .before .before .before .before .before .before .before .before .before .before .before .before .loop .inv .3 .below, c .before .before .before .before .before .before .before .before .before .before .before .before .before .before .before .before .before .before .before .before .before .before .before .before .pre .1 .0 .table .small)
+read-container-add-children t c = omega (arith, c .before .before .before .before .before .before .before .before .before .before .before .before .loop .inv .3 .few, c .before .before .before .before .before .before .before .before .before .before .before .before .loop .inv .3 .below, c .before .before .before .before .before .before .before .before .before .before .before .before .before .before .before .before .before .before .before .before .before .pre .1 .0 .table .small)
 
 read-container-next-child-requires-2 : (t : ℕ) → read-container-lts.Need-next-child-requires-2 (read-container-calls t) (read-container-at t) read-container.Post read-container-Inv-loop read-container-μ-loop
 read-container-next-child-requires-2 t c κs =
-    let the-loop = c .before .before .before .before .before .before .before .before .before .before .before .before .before .loop in
-    let the-read-value = c .before .before .before .before .before .before .before .read-value in
-    body-look (the-loop .inv .2) (c .before .before .before .before .before .before .before .before .before .before .before .before .before .before .before .before .before .before .before .before .before .before .before .before .before .pre .1 .1 .short) (body-value (the-loop .inv .3) (value-is (the-loop .inv .2) (c .before .before .before .before .before .before .before .before .before .before .before .item3 .given .1) (the-loop .inv .4)) (fresh-read (c .before .before .before .before .before .before .before .before .before .child-due .ensures) (c .before .before .before .stop .given .1) (the-read-value .ensures)) (the-read-value .kept .1 .1 .0))
+    let the-loop = c .before .before .before .before .before .before .before .before .before .before .before .before .loop in
+    let the-read-value = c .before .before .before .before .before .before .read-value in
+    ((body-value (the-loop .inv .3) (value-is (c .before .before .before .before .before .before .before .before .before .before .item4 .given .1) (the-loop .inv .4)) (fresh-read (c .before .before .before .before .before .before .before .before .child-due .ensures) (c .before .before .stop .given .1) (the-read-value .ensures)) (the-read-value .kept .1 .1 .0)) .inside, c .before .before .before .before .before .before .before .before .before .before .before .before .before .before .before .before .before .before .before .before .before .pre .1 .1 .short)
 
 read-container-loop-less : (t : ℕ) → read-container-lts.Need-loop-less (read-container-calls t) (read-container-at t) read-container.Post read-container-Inv-loop read-container-μ-loop
-read-container-loop-less t c = let T = fresh-read (c .before .before .before .before .before .before .before .before .before .before .child-due .ensures) (c .before .before .before .before .stop .given .1) (c .before .before .before .before .before .before .before .before .read-value .ensures) in let I = value-is (c .before .before .before .before .before .before .before .before .before .before .before .before .before .before .loop .inv .2) (c .before .before .before .before .before .before .before .before .before .before .before .before .item3 .given .1) (c .before .before .before .before .before .before .before .before .before .before .before .before .before .before .loop .inv .4) in omega (arith, T .ahead, I .ahead, T .inside)
+read-container-loop-less t c = let T = fresh-read (c .before .before .before .before .before .before .before .before .before .child-due .ensures) (c .before .before .before .stop .given .1) (c .before .before .before .before .before .before .before .read-value .ensures) in let I = value-is (c .before .before .before .before .before .before .before .before .before .before .before .item4 .given .1) (c .before .before .before .before .before .before .before .before .before .before .before .before .before .loop .inv .4) in omega (arith, T .ahead, I .ahead, T .inside)
 
 read-container-loop-again : (t : ℕ) → read-container-lts.Need-loop-again (read-container-calls t) (read-container-at t) read-container.Post read-container-Inv-loop read-container-μ-loop
 read-container-loop-again t c =
-    let the-loop = c .before .before .before .before .before .before .before .before .before .before .before .before .before .before .loop in
-    let the-read-value = c .before .before .before .before .before .before .before .before .read-value in
-    (_, _, the-loop .inv .2, body-value (the-loop .inv .3) (value-is (the-loop .inv .2) (c .before .before .before .before .before .before .before .before .before .before .before .before .item3 .given .1) (the-loop .inv .4)) (fresh-read (c .before .before .before .before .before .before .before .before .before .before .child-due .ensures) (c .before .before .before .before .stop .given .1) (the-read-value .ensures)) (the-read-value .kept .1 .1 .0), c .next-child2 .ensures)
+    let the-loop = c .before .before .before .before .before .before .before .before .before .before .before .before .before .loop in
+    let the-read-value = c .before .before .before .before .before .before .before .read-value in
+    (_, _, the-loop .inv .2, body-value (the-loop .inv .3) (value-is (c .before .before .before .before .before .before .before .before .before .before .before .item4 .given .1) (the-loop .inv .4)) (fresh-read (c .before .before .before .before .before .before .before .before .before .child-due .ensures) (c .before .before .before .stop .given .1) (the-read-value .ensures)) (the-read-value .kept .1 .1 .0), c .next-child2 .ensures)
 
 read-identifier-returns : (t : ℕ) → read-identifier-lts.Need-returns (read-identifier-calls t) (read-identifier-at t) read-identifier.Post
 read-identifier-returns t c =
@@ -401,26 +428,30 @@ pub +read-container+read-identifier+read-value-spec : {M : Type 1} → statement
     read-container.Post
     read-container-Inv-loop
     read-container-μ-loop
+    (read-container-opening-refusal-requires t)
     (read-container-returns t)
-    (read-container-is-full-requires t)
-    (read-container-returns-2 t)
-    (read-container-add-first t)
+    (read-container-add-no-children t)
+    (read-container-no-children-requires t)
     (read-container-next-child-requires t)
     (read-container-loop-holds t)
     (read-container-enum-known-item t)
     (read-container-late-refusal-requires t)
     (read-container-same-length t)
-    (read-container-returns-3 t)
+    (read-container-returns-2 t)
     (read-container-enum-known-item-2 t)
-    (read-container-put-branch-requires t)
+    (read-container-late-after-requires t)
     (read-container-same-length-2 t)
-    (read-container-returns-4 t)
+    (read-container-returns-3 t)
     (read-container-enum-known-item-3 t)
+    (read-container-put-branch-requires t)
+    (read-container-same-length-3 t)
+    (read-container-returns-4 t)
+    (read-container-enum-known-item-4 t)
     (read-container-child-due-requires t)
     (read-container-read-value-requires t)
     (read-container-enum-known-refusal t)
-    (read-container-child-refusal-requires t)
-    (read-container-same-length-3 t)
+    (read-container-late-after-requires-2 t)
+    (read-container-same-length-4 t)
     (read-container-returns-5 t)
     (read-container-enum-known-stop t)
     (read-container-add-children t)

@@ -1,8 +1,8 @@
--- made by tools/proof.py from answers/values/fresh_due (answers c84f4976ac91, proof c163b0ca8693): edit that file, not this one
+-- made by tools/proof.py from answers/values/fresh_due (answers 37a96d9e9c7b, proof 3573a028387c): edit that file, not this one
 use borrow.Author.Needs.{needs}
 use native.Mathlib.Omega.{arith}
 use mathlib.Core.Path.{ap}
-use mathlib.Core.Bool.{true, false}
+use mathlib.Core.Bool.{true}
 use Rattle.reader.specs.declared.tree.SpanWords.{SpanWords}
 use Rattle.reader.proofs.values.fresh_due.Statement.{statement}
 use Rattle.reader.proofs.values.fresh_due.Tie as tie

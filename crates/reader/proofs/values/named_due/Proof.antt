@@ -1,7 +1,7 @@
--- made by tools/proof.py from answers/values/named_due (answers 3ff637f61f94, proof 9640fe69ea41): edit that file, not this one
+-- made by tools/proof.py from answers/values/named_due (answers 5ef3e5ba540f, proof d89ec2f70090): edit that file, not this one
 use borrow.Author.Needs.{needs}
 use mathlib.Core.Path.{ap}
-use mathlib.Core.Bool.{true, false}
+use mathlib.Core.Bool.{false}
 use Rattle.reader.specs.declared.tree.SpanWords.{SpanWords}
 use Rattle.reader.proofs.values.named_due.Statement.{statement}
 use Rattle.reader.proofs.values.named_due.Tie as tie

@@ -1,6 +1,6 @@
--- made by tools/proof.py from answers/utf8/check_utf8 (answers 1ba9536ce74c, proof 31124046d080): edit that file, not this one
+-- made by tools/proof.py from answers/utf8/check_utf8 (answers ffa50ab74c34, proof e97765e10b33): edit that file, not this one
 use native.Mathlib.Omega.{arith}
-use mathlib.Core.Path.{_≡_, refl, sym, ap, _∙_}
+use mathlib.Core.Path.{sym, _∙_}
 use Prim.Native.Nat.{_-_}
 use lib.ListN.{length}
 use Rattle.text.proofs.EightLaws.{Checks, checks-start, checks-eight, passed, checks-passed, checks-stop, checks-end, eight-long}

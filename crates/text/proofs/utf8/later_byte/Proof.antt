@@ -1,6 +1,5 @@
--- made by tools/proof.py from answers/utf8/later_byte (answers d9e9eea41dc6, proof 505d5b5891bd): edit that file, not this one
+-- made by tools/proof.py from answers/utf8/later_byte (answers 3c864cdb7964, proof 9f364d797a2e): edit that file, not this one
 use native.Mathlib.Omega.{arith}
-use mathlib.Core.Path.{_≡_, refl, sym, ap, _∙_}
 use Rattle.text.proofs.Utf8Laws.{later-last, later-more}
 use Rattle.text.proofs.utf8.later_byte.Statement.{statement}
 use Rattle.text.proofs.utf8.later_byte.Tie as tie
