@@ -63,10 +63,10 @@ module _ (a : Report) where
 pub fits : {result : Result} {r : Change} {text journal table : List ℕ} → result .answer .place ≤ maxText → Shows changeOf result (leaving r text journal table) → PlaceFits (r .verdict)
 fits {result} h s = rw (s .answer-is) (verdict-fits (result .answer) h)
 
-pub crosses : {result : Result} {r : Change} {text journal table answer : List ℕ} {n : ℕ} → Shows changeOf result (leaving r text journal table) → n ≡ verdictNumber (r .verdict)
+pub change-crosses : {result : Result} {r : Change} {text journal table answer : List ℕ} {n : ℕ} → Shows changeOf result (leaving r text journal table) → n ≡ verdictNumber (r .verdict)
     → answer ≡ wordsOf r → Shows crossed result (leaving (crossing n answer) text journal table)
 unfolding wordsOf changeOf changeWords crossed
-crosses {result} {r} s e f =
+change-crosses {result} {r} s e f =
     record {
       answer-is = λ i. crossing
           ((e ∙ ap (λ (c : Change). verdictNumber (c .verdict)) (s .answer-is) ∙ verdict-number (result .answer)) i)

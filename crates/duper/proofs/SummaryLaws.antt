@@ -8,9 +8,9 @@ use Rattle.summary.specs.declared.summary.Summary.{Summary}
 use Rattle.duper.specs.Numbers.{summaryNumber, summaryCounts, summaryHeights, SummaryCrosses}
 
 -- an answer shows what it is
-pub crosses : (a x : Summary) (lent : List ℕ) (floats : List Float) → x ≡ a
+pub summary-crosses : (a x : Summary) (lent : List ℕ) (floats : List Float) → x ≡ a
     → SummaryCrosses a (summaryNumber x) lent (summaryCounts x lent) floats (summaryHeights x floats)
-crosses a x lent floats e =
+summary-crosses a x lent floats e =
     record {
       number-is = ap summaryNumber e;
       counts-are = ap (λ (y : Summary). summaryCounts y lent) e;

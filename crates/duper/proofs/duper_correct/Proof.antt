@@ -1,8 +1,8 @@
--- made by tools/proof.py from answers/duper_correct (answers 7b7618b0db1c, proof 36d6ab8cf4d3): edit that file, not this one
+-- made by tools/proof.py from answers/duper_correct (answers fdfd7a15a313, proof 396f6599499c): edit that file, not this one
 use borrow.Author.Needs.{needs}
 use native.Mathlib.Omega.{arith}
 use Rattle.text.specs.Switches.{presentEdition}
-use Rattle.duper.proofs.ChangeLaws.{correct-place, fits, crosses}
+use Rattle.duper.proofs.ChangeLaws.{correct-place, fits, change-crosses}
 use Rattle.duper.proofs.duper_correct.Statement.{statement}
 use Rattle.duper.proofs.duper_correct.Tie as tie
 
@@ -22,7 +22,7 @@ same-length-3 : tie.Need-same-length-3
 same-length-3 c = omega arith
 
 returns : tie.Need-returns
-returns c = crosses (c .before .before .before .before .before .before .before .before .correct .ensures) (c .tell .ensures .0) (c .tell .ensures .1)
+returns c = change-crosses (c .before .before .before .before .before .before .before .before .correct .ensures) (c .tell .ensures .0) (c .tell .ensures .1)
 
 pub duper-correct-spec : {M : Type 1} → statement M
 duper-correct-spec =

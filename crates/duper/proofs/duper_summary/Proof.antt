@@ -1,11 +1,11 @@
--- made by tools/proof.py from answers/duper_summary (answers 82aef12af18b, proof da8be3cfc3d5): edit that file, not this one
+-- made by tools/proof.py from answers/duper_summary (answers a622ac9e99b9, proof c2ca779f309f): edit that file, not this one
 use borrow.Author.Needs.{needs}
 use native.Mathlib.Omega.{arith}
 use mathlib.Core.Path.{sym, _∙_}
 use lib.ListN.{length}
 use Rattle.text.specs.Switches.{presentEdition}
 use Rattle.summary.proofs.AnswerLaws.{summary-place}
-use Rattle.duper.proofs.SummaryLaws.{crosses}
+use Rattle.duper.proofs.SummaryLaws.{summary-crosses}
 use Rattle.duper.specs.Numbers.{summaryNumber, summaryCounts, summaryHeights}
 use Rattle.duper.proofs.duper_summary.Statement.{statement}
 use Rattle.duper.proofs.duper_summary.Tie as tie
@@ -34,7 +34,7 @@ returns : tie.Need-returns
 unfolding summaryNumber summaryCounts summaryHeights
 returns c =
     let the-summarize = c .before .before .before .before .before .before .before .summarize in
-    (crosses _ _ _ _ (sym (c .before .before .before .c .given .1) ∙ the-summarize .ensures .0), the-summarize .ensures .1)
+    (summary-crosses _ _ _ _ (sym (c .before .before .before .c .given .1) ∙ the-summarize .ensures .0), the-summarize .ensures .1)
 
 same-length-2 : tie.Need-same-length-2
 same-length-2 c = omega arith
@@ -43,7 +43,7 @@ returns-2 : tie.Need-returns-2
 unfolding summaryNumber summaryCounts summaryHeights
 returns-2 c =
     let the-summarize = c .before .before .before .before .before .before .summarize in
-    (crosses _ _ _ _ (sym (c .before .before .c2 .given .1) ∙ the-summarize .ensures .0), the-summarize .ensures .1)
+    (summary-crosses _ _ _ _ (sym (c .before .before .c2 .given .1) ∙ the-summarize .ensures .0), the-summarize .ensures .1)
 
 same-length-3 : tie.Need-same-length-3
 same-length-3 c = omega arith
@@ -52,7 +52,7 @@ returns-3 : tie.Need-returns-3
 unfolding summaryNumber summaryCounts summaryHeights
 returns-3 c =
     let the-summarize = c .before .before .before .before .before .before .summarize in
-    (rw (c .packed .ensures) (crosses _ _ _ _ (sym (c .before .before .refusal .given .1) ∙ the-summarize .ensures .0)), the-summarize .ensures .1)
+    (rw (c .packed .ensures) (summary-crosses _ _ _ _ (sym (c .before .before .refusal .given .1) ∙ the-summarize .ensures .0)), the-summarize .ensures .1)
 
 pub duper-summary-spec : {M : Type 1} → statement M
 duper-summary-spec =

@@ -1,8 +1,8 @@
--- made by tools/proof.py from answers/duper_undo (answers b724d618420d, proof 10d77be90e82): edit that file, not this one
+-- made by tools/proof.py from answers/duper_undo (answers 9ec07ebe6302, proof 9e53e3156853): edit that file, not this one
 use borrow.Author.Needs.{needs}
 use native.Mathlib.Omega.{arith}
 use Rattle.text.specs.Switches.{presentEdition}
-use Rattle.duper.proofs.ChangeLaws.{undo-place, fits, crosses}
+use Rattle.duper.proofs.ChangeLaws.{undo-place, fits, change-crosses}
 use Rattle.duper.proofs.duper_undo.Statement.{statement}
 use Rattle.duper.proofs.duper_undo.Tie as tie
 
@@ -22,7 +22,7 @@ same-length-3 : tie.Need-same-length-3
 same-length-3 c = omega arith
 
 returns : tie.Need-returns
-returns c = crosses (c .before .before .before .before .before .before .undo .ensures) (c .tell .ensures .0) (c .tell .ensures .1)
+returns c = change-crosses (c .before .before .before .before .before .before .undo .ensures) (c .tell .ensures .0) (c .tell .ensures .1)
 
 pub duper-undo-spec : {M : Type 1} → statement M
 duper-undo-spec =
