@@ -1,27 +1,24 @@
-//! The comparison: whole tables, numbers and places, and contents with the
-//! output buffers compared whole; corrections and undos with all buffers
-//! compared whole; tables before and after insertions; both numbers of the UTF-8
-//! check; the answers to paths, with the tables; and summaries, with the tables.
-//! Texts of many keys are compared as other texts are.
+//! `duper`'s calls in the trials' terms, for each kind to be held against
+//! `second`: reading, content, corrections and undos, the UTF-8 check, asking by
+//! path, and summaries. Where a `Document` makes the same call, it is held against
+//! the call's answer. The texts' comparison is here too: whole tables, numbers and
+//! places, and contents with the output buffers compared whole.
 
 use second::book::Call;
 use second::utf8::Checked;
 
 use crate::check::{self, Answer, ContentCall};
-use crate::editing::{self, OnTrial, Seen};
-use crate::eights;
-use crate::finding;
+use crate::editing;
+use crate::finding::{self, Finder};
 use crate::heights::Summary;
 use crate::histories::{History, Lent};
-use crate::insertions;
-use crate::keying;
 use crate::random::Random;
-use crate::summarizing;
+use crate::summarizing::{self, Summarizer};
 use crate::texts::Case;
 use crate::zeros;
 
 /// `duper`'s answer in document 01's terms.
-fn duper_read(text: &[u8], table: &mut [u32]) -> Answer {
+pub fn duper_read(text: &[u8], table: &mut [u32]) -> Answer {
     duper::read(text, table).map_err(|refusal| (refusal.number, u64::from(refusal.place)))
 }
 
@@ -71,28 +68,14 @@ fn in_second(refusal: duper::Refusal) -> second::Refusal {
     second::Refusal { number: refusal.number, place: refusal.place.into() }
 }
 
-/// Holds `duper`'s calls against the plain book and `second`, in one history
-/// and some single calls; the error tells the difference.
-pub fn edits(random: &mut Random, seen: &mut Seen) -> Result<(), String> {
-    editing::trial(random, OnTrial { editor, history: a_document, single: one_call }, seen)
-}
-
-/// Holds `duper`'s tables of one text, without and with insertions, against
-/// `second`'s rule; the error tells the difference.
-pub fn annotated(random: &mut Random, seen: &mut insertions::Seen) -> Result<(), String> {
-    insertions::trial(random, duper_read, seen)
-}
+/// `duper`'s corrections and undos, and a document's.
+pub const EDITING: editing::OnTrial =
+    editing::OnTrial { editor, history: a_document, single: one_call };
 
 /// `duper`'s UTF-8 check in `second`'s terms.
-fn duper_utf8(bytes: &[u8]) -> Checked {
+pub fn duper_utf8(bytes: &[u8]) -> Checked {
     let duper::Utf8Check { front, eights } = duper::utf8(bytes);
     Checked { front, eights }
-}
-
-/// Holds `duper`'s UTF-8 check against `second`'s; the error tells the
-/// difference.
-pub fn checked(bytes: &[u8], seen: &mut eights::Seen) -> Result<(), String> {
-    eights::trial(bytes, duper_utf8, seen)
 }
 
 /// `duper`'s answer to a path in document 01's terms.
@@ -116,12 +99,9 @@ fn asked_document(text: &[u8], words: usize, path: &[u8], answer: Answer) -> Res
     }
 }
 
-/// Holds `duper`'s answers to paths against `second`'s and what is known; the
-/// error tells the difference.
-pub fn found(random: &mut Random, seen: &mut finding::Seen) -> Result<(), String> {
-    let on_trial = finding::OnTrial { finder: duper_find, further: asked_document };
-    finding::trial(random, on_trial, seen)
-}
+/// `duper`'s answers to paths, and a document's.
+pub const FINDING: finding::OnTrial<Finder> =
+    finding::OnTrial { finder: duper_find, further: asked_document };
 
 /// `duper`'s summary in the trial's terms.
 fn in_trial(answer: Result<duper::Summary, duper::Refusal>) -> summarizing::Answer {
@@ -151,18 +131,9 @@ fn summarized_document(
     Ok(())
 }
 
-/// Holds `duper`'s summaries against `second`'s and what is known; the error
-/// tells the difference.
-pub fn summarized(random: &mut Random, seen: &mut summarizing::Seen) -> Result<(), String> {
-    let on_trial = summarizing::OnTrial { summarizer: duper_summary, further: summarized_document };
-    summarizing::trial(random, on_trial, seen)
-}
-
-/// Holds `duper`'s reading of a text of many keys against `second`'s and what is
-/// known; the error tells the difference.
-pub fn keyed(random: &mut Random, seen: &mut keying::Seen) -> Result<(), String> {
-    keying::trial(random, duper_read, seen)
-}
+/// `duper`'s summaries, and a document's.
+pub const SUMMARIZING: summarizing::OnTrial<Summarizer> =
+    summarizing::OnTrial { summarizer: duper_summary, further: summarized_document };
 
 /// A document that may grow as far as buffers of these lengths let it.
 fn document(

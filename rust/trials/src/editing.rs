@@ -5,6 +5,7 @@ use second::book::{Call, Page};
 use second::{Answer, ROW};
 
 use crate::histories::{history, History, Lent};
+use crate::kind::Kind;
 use crate::random::Random;
 use crate::single::single;
 use crate::zeros;
@@ -30,7 +31,7 @@ pub struct OnTrial {
 
 impl OnTrial {
     /// These calls and no further ones.
-    pub fn only(editor: Editor) -> OnTrial {
+    pub const fn only(editor: Editor) -> OnTrial {
         OnTrial { editor, history: |_| Ok(()), single: |_, _, _, _| Ok(()) }
     }
 }
@@ -47,6 +48,47 @@ pub struct Seen {
     pub many_zeros: [u64; 21],
     /// In single calls, by number.
     pub single: [u64; 21],
+}
+
+impl Kind for Seen {
+    const PLURAL: &'static str = "histories";
+    const SINGULAR: &'static str = "history";
+    const USUAL: u64 = 10_000;
+    const TURN: u32 = 32;
+
+    type OnTrial = OnTrial;
+    const SECOND: OnTrial = OnTrial::only(second);
+    #[cfg(feature = "against")]
+    const DUPER: OnTrial = crate::against::EDITING;
+
+    fn trial(&mut self, turned: u64, number: u64, on_trial: OnTrial) -> Result<(), String> {
+        trial(&mut Random::for_case(turned, number), on_trial, self)
+    }
+
+    fn progress(&self) -> String {
+        format!("histories, {} calls", self.histories.iter().sum::<u64>())
+    }
+
+    fn compared(&self) -> String {
+        let [calls, single] = [self.histories, self.single].map(|seen| seen.iter().sum::<u64>());
+        format!("histories of {calls} calls, and {single} single calls, no difference")
+    }
+
+    fn details(&self) -> Vec<String> {
+        let counts = [
+            ("histories", self.histories),
+            ("corrections by a number with leading zeros in its exponent", self.zeros),
+            ("corrections by one with over 10,000 of them", self.many_zeros),
+            ("single calls", self.single),
+        ];
+        let line = |(what, seen): (&str, [u64; 21])| {
+            let refused = (1..=20).filter(|&number| seen[number] > 0);
+            let refused: Vec<_> =
+                refused.map(|number| format!("{number}: {}", seen[number])).collect();
+            format!("{what}: accepted {}; refused {}", seen[0], refused.join(", "))
+        };
+        counts.map(line).to_vec()
+    }
 }
 
 /// `second`'s calls.

@@ -4,6 +4,9 @@
 use second::utf8::{self, Checked};
 use second::MAX_TEXT;
 
+use crate::bytes;
+use crate::kind::Kind;
+
 /// A check on trial: `second`'s, or the archive's.
 pub type Check = fn(&[u8]) -> Checked;
 
@@ -33,6 +36,37 @@ impl Seen {
         self.behind += u64::from(faulty && eights > 0);
         self.long += u64::from(bytes.len() > MAX_TEXT);
         self.eights += eights as u64;
+    }
+}
+
+impl Kind for Seen {
+    const PLURAL: &'static str = "checks";
+    const SINGULAR: &'static str = "check";
+    const USUAL: u64 = 200_000;
+    const TURN: u32 = 48;
+
+    type OnTrial = Check;
+    const SECOND: Check = utf8::check;
+    #[cfg(feature = "against")]
+    const DUPER: Check = crate::against::duper_utf8;
+
+    fn trial(&mut self, turned: u64, number: u64, check: Check) -> Result<(), String> {
+        trial(&bytes::case(turned, number), check, self)
+    }
+
+    fn progress(&self) -> String {
+        format!("checks, {} bytes", self.bytes)
+    }
+
+    fn compared(&self) -> String {
+        format!("UTF-8 checks of {} bytes, no difference", self.bytes)
+    }
+
+    fn details(&self) -> Vec<String> {
+        vec![format!(
+            "with a fault: {}, of which behind an eight: {}; of over 65,536 bytes: {}; eights: {}",
+            self.faulty, self.behind, self.long, self.eights
+        )]
     }
 }
 
@@ -74,7 +108,6 @@ fn by_runs(bytes: &[u8]) -> Checked {
 #[cfg(test)]
 mod tests {
     use super::*;
-    use crate::bytes;
 
     #[test]
     fn second_counts_as_the_runs_tell() {

@@ -6,6 +6,7 @@ use std::collections::BTreeMap;
 use second::MAX_DEPTH;
 
 use crate::check::{rubbish, second_read, Answer};
+use crate::kind::{listed, Kind};
 use crate::paths::{self, Asked, Case, Source};
 use crate::random::Random;
 
@@ -28,7 +29,7 @@ pub struct OnTrial<F> {
 
 impl<F> OnTrial<F> {
     /// This call and no further one.
-    pub fn only(finder: F) -> OnTrial<F> {
+    pub const fn only(finder: F) -> OnTrial<F> {
         OnTrial { finder, further: |_, _, _, _| Ok(()) }
     }
 }
@@ -92,6 +93,62 @@ impl Seen {
             Source::Damaged => self.damaged += 1,
             Source::Elsewhere => self.elsewhere += 1,
         }
+    }
+}
+
+impl Kind for Seen {
+    const PLURAL: &'static str = "paths";
+    const SINGULAR: &'static str = "path";
+    const USUAL: u64 = 20_000;
+    const TURN: u32 = 24;
+
+    type OnTrial = OnTrial<Finder>;
+    const SECOND: OnTrial<Finder> = OnTrial::only(second_find);
+    #[cfg(feature = "against")]
+    const DUPER: OnTrial<Finder> = crate::against::FINDING;
+
+    fn trial(&mut self, turned: u64, number: u64, on_trial: OnTrial<Finder>) -> Result<(), String> {
+        trial(&mut Random::for_case(turned, number), on_trial, self)
+    }
+
+    fn progress(&self) -> String {
+        format!("texts with {} paths", self.paths)
+    }
+
+    fn compared(&self) -> String {
+        format!(
+            "texts with {} paths, no difference in answers and {} words",
+            self.paths, self.words
+        )
+    }
+
+    fn details(&self) -> Vec<String> {
+        vec![
+            format!(
+                "texts: {} documents, {} of them damaged, and {} others; \
+                 answers known beforehand: {}",
+                self.documents + self.damaged,
+                self.damaged,
+                self.elsewhere,
+                self.known
+            ),
+            format!(
+                "found: {}, the root {} times; by at most {} steps, and up to node {}; \
+                 longest path: {} bytes",
+                self.found, self.roots, self.deepest, self.greatest, self.longest
+            ),
+            format!(
+                "refused with 23: {}, by step {}",
+                self.stuck.values().sum::<u64>(),
+                listed(&self.stuck)
+            ),
+            format!(
+                "refused by the reading: {}, by number {}",
+                self.refused.values().sum::<u64>(),
+                listed(&self.refused)
+            ),
+            format!("paths by sort: {}", listed(&self.sorts)),
+        ]
     }
 }
 

@@ -6,7 +6,8 @@ use second::insertion::{inserted, moved, outside_parent, Gap, Insertion};
 use second::{MAX_TEXT, ROW};
 
 use crate::annotated::{annotated, Annotated};
-use crate::check::{self, rubbish, Reader};
+use crate::check::{self, rubbish, second_read, Reader};
+use crate::kind::Kind;
 use crate::random::Random;
 use crate::texts::{Case, Known};
 
@@ -77,6 +78,51 @@ impl Seen {
             self.keyed += u64::from(row[5] > 0);
             self.named += u64::from(row[7] > 0);
         }
+    }
+}
+
+impl Kind for Seen {
+    const PLURAL: &'static str = "insertions";
+    const SINGULAR: &'static str = "insertion";
+    const USUAL: u64 = 20_000;
+    const TURN: u32 = 16;
+
+    type OnTrial = Reader;
+    const SECOND: Reader = second_read;
+    #[cfg(feature = "against")]
+    const DUPER: Reader = crate::against::duper_read;
+
+    fn trial(&mut self, turned: u64, number: u64, reader: Reader) -> Result<(), String> {
+        trial(&mut Random::for_case(turned, number), reader, self)
+    }
+
+    fn progress(&self) -> String {
+        format!("texts with {} insertions", self.insertions())
+    }
+
+    fn compared(&self) -> String {
+        format!(
+            "texts with {} insertions, no difference in {} words, of which {} had moved",
+            self.insertions(),
+            self.words,
+            self.moved
+        )
+    }
+
+    fn details(&self) -> Vec<String> {
+        let [tabs, feeds, returns, blanks] = self.spaces;
+        vec![
+            format!(
+                "inserted: 09: {tabs}, 0A: {feeds}, 0D: {returns}, 20: {blanks}, \
+                 line comments: {}, with 0D before the line feed: {}, block comments: {}; \
+                 nothing: {} texts",
+                self.line, self.line_return, self.block, self.bare
+            ),
+            format!(
+                "new texts of over 65,536 bytes: {}, of just that many: {}",
+                self.over_long, self.full
+            ),
+        ]
     }
 }
 

@@ -3,8 +3,9 @@
 
 use std::collections::{BTreeMap, HashMap};
 
-use crate::check::{self, Answer};
+use crate::check::{self, second_read, Answer, Reader};
 use crate::keys::{keyed, Keyed};
+use crate::kind::{listed, Kind};
 use crate::random::Random;
 
 /// An object of more keys than this counts as one of many.
@@ -82,9 +83,58 @@ impl Seen {
             _ => {}
         }
     }
+}
+
+impl Kind for Seen {
+    const PLURAL: &'static str = "keys";
+    const SINGULAR: &'static str = "key";
+    const USUAL: u64 = 20_000;
+    const TURN: u32 = 56;
+
+    type OnTrial = Reader;
+    const SECOND: Reader = second_read;
+    #[cfg(feature = "against")]
+    const DUPER: Reader = crate::against::duper_read;
+
+    fn trial(&mut self, turned: u64, number: u64, reader: Reader) -> Result<(), String> {
+        trial(&mut Random::for_case(turned, number), reader, self)
+    }
+
+    fn progress(&self) -> String {
+        "texts of many keys".to_string()
+    }
+
+    fn compared(&self) -> String {
+        format!("texts of many keys, no difference in answers and {} words", self.words)
+    }
+
+    fn details(&self) -> Vec<String> {
+        vec![
+            format!(
+                "objects of more than {MANY} keys: {}; the most in one object: {}",
+                self.objects, self.most
+            ),
+            format!(
+                "duplicates reported: {}, of which spelled otherwise than the first: {}, \
+                 in an object of more than {MANY} keys: {}, of over 2,046 bytes: {}, \
+                 with another fault later: {}",
+                self.doubled(),
+                self.otherwise,
+                self.in_many,
+                self.long,
+                self.later
+            ),
+            format!(
+                "taken: {}; refused by number {}; with a duplicate behind another fault: {}",
+                self.taken,
+                listed(&self.refused),
+                self.behind
+            ),
+        ]
+    }
 
     /// What came up in less than one text of 400.
-    pub fn rare(&self) -> Vec<&'static str> {
+    fn rare(&self) -> Vec<String> {
         let counts = [
             ("texts taken", self.taken),
             ("objects of many keys", self.objects),
@@ -98,7 +148,8 @@ impl Seen {
         let numbers = numbers.map(|(number, name)| (name, self.refused.get(&number).copied()));
         let numbers = numbers.map(|(name, count)| (name, count.unwrap_or(0)));
         let all = counts.into_iter().chain(numbers);
-        all.filter(|(_, count)| count * 400 < self.texts).map(|(what, _)| what).collect()
+        let rare = all.filter(|(_, count)| count * 400 < self.texts);
+        rare.map(|(what, _)| what.to_string()).collect()
     }
 }
 
@@ -127,7 +178,6 @@ pub fn trial(
 #[cfg(test)]
 mod tests {
     use super::*;
-    use crate::check::second_read;
 
     /// What is known of the texts is what `second` reads, and all that is counted
     /// comes up.

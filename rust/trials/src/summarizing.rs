@@ -9,6 +9,7 @@ use second::summary;
 use crate::check::{self, rubbish, second_read};
 use crate::finding::alike;
 use crate::heights::{Summary, MOST};
+use crate::kind::{listed, Kind};
 use crate::paths::Source;
 use crate::random::Random;
 use crate::records::{self, Case};
@@ -34,7 +35,7 @@ pub struct OnTrial<S> {
 
 impl<S> OnTrial<S> {
     /// This call and no further one.
-    pub fn only(summarizer: S) -> OnTrial<S> {
+    pub const fn only(summarizer: S) -> OnTrial<S> {
         OnTrial { summarizer, further: |_, _, _| Ok(()) }
     }
 }
@@ -97,10 +98,68 @@ impl Seen {
             Source::Elsewhere => self.elsewhere += 1,
         }
     }
+}
+
+impl Kind for Seen {
+    const PLURAL: &'static str = "summaries";
+    const SINGULAR: &'static str = "summary";
+    const USUAL: u64 = 20_000;
+    const TURN: u32 = 40;
+
+    type OnTrial = OnTrial<Summarizer>;
+    const SECOND: OnTrial<Summarizer> = OnTrial::only(second_summary);
+    #[cfg(feature = "against")]
+    const DUPER: OnTrial<Summarizer> = crate::against::SUMMARIZING;
+
+    fn trial(
+        &mut self,
+        turned: u64,
+        number: u64,
+        on_trial: OnTrial<Summarizer>,
+    ) -> Result<(), String> {
+        trial(&mut Random::for_case(turned, number), on_trial, self)
+    }
+
+    fn progress(&self) -> String {
+        format!("texts with {} summaries", self.calls)
+    }
+
+    fn compared(&self) -> String {
+        format!(
+            "texts with {} summaries, no difference in answers and {} words",
+            self.calls, self.words
+        )
+    }
+
+    fn details(&self) -> Vec<String> {
+        let [measured, null, absent, unfit] = self.records;
+        vec![
+            format!(
+                "texts: {} of records, {} with something done to them, and {} others; \
+                 answers known beforehand: {}",
+                self.documents, self.damaged, self.elsewhere, self.known
+            ),
+            format!(
+                "records: measured {measured}, null {null}, absent {absent}, unfit {unfit}; \
+                 at most {} in a text",
+                self.most
+            ),
+            format!(
+                "summaries with heights: {}, without any: {}; refused with 21 at the root: {}, \
+                 at an element: {}",
+                self.with_heights, self.without_heights, self.root, self.element
+            ),
+            format!(
+                "refused by the reading: {}, by number {}",
+                self.refused.values().sum::<u64>(),
+                listed(&self.refused)
+            ),
+        ]
+    }
 
     /// What hardly came up: less than once in 2,000 calls. A run of many texts
     /// that shows nothing of one of these is no trial of it.
-    pub fn rare(&self) -> Vec<String> {
+    fn rare(&self) -> Vec<String> {
         let [measured, null, absent, unfit] = self.records;
         let mut counts = vec![
             ("measured".to_string(), measured),

@@ -97,6 +97,32 @@ impl Seen {
             self.grouped += u64::from(exponent.contains(&b'_'));
         }
     }
+
+    /// What came up, line by line.
+    pub fn details(&self) -> Vec<String> {
+        let counts = [
+            ("with leading zeros", self.leading),
+            ("with over 1,000 leading zeros", self.thousand),
+            ("with over 10,000 leading zeros", self.ten_thousand),
+            ("of over 10,000 bytes without leading zeros", self.long),
+        ];
+        let line = |(what, outcomes): (&str, Outcomes)| {
+            let Outcomes { taken, too_wide, malformed } = outcomes;
+            let all = outcomes.all();
+            format!(
+                "exponents {what}: {all}; taken {taken}, refused with 5: {too_wide}, \
+                 with 3: {malformed}"
+            )
+        };
+        let mut lines: Vec<_> = counts.into_iter().map(line).collect();
+        let [none, plus, minus] = self.signs;
+        lines.push(format!(
+            "of those taken with leading zeros: no sign {none}, plus {plus}, minus {minus}; \
+             with underscores {}",
+            self.grouped
+        ));
+        lines
+    }
 }
 
 /// "A number opens with a digit, `+` or `-`, and runs over letters, digits,

@@ -1,143 +1,127 @@
-//! `trials --texts N --histories N --insertions N --checks N --paths N
-//! --summaries N --keys N --seed S`: holds `duper` against `second` on N texts, on
-//! N histories of corrections and undos, on N texts with spaces and comments
-//! inserted, in N UTF-8 checks, on N texts with some paths to ask for each, on N
-//! texts to be summarized, and on N texts with objects of many keys.
+//! `trials`: holds `duper` against `second` in the kinds of trials that are listed
+//! in [`KINDS`].
 //!
-//! `--self` looks at `second` alone; `--case K`, `--history K`, `--insertion K`,
-//! `--check K`, `--path K`, `--summary K` or `--key K` runs that text, history,
-//! text with insertions, UTF-8 check, text with paths, text to be summarized or
-//! text of many keys only.
+//! Each kind has two options. One tells how many to run, as in `--texts N`; the
+//! other runs the one of that number only, as in `--case K`. Without any of these,
+//! some of every kind are run. `--seed S` makes the trials of another run again, and
+//! `--self` looks at `second` alone.
 //! `--short` runs every text of up to two bytes, bare and in a few surroundings,
 //! every exponent of up to six bytes over a small alphabet, and the numbers of
 //! document 02's request 02, in place of random texts.
 
-use std::collections::BTreeMap;
-use std::fmt::Display;
 use std::ops::Range;
 use std::process::ExitCode;
 use std::time::{Duration, Instant, SystemTime};
 
-use trials::bytes;
-use trials::editing::{self, OnTrial, Seen};
-use trials::eights;
-use trials::finding;
-use trials::insertions;
-use trials::keying;
-use trials::random::Random;
-use trials::summarizing;
-use trials::texts;
-use trials::zeros::{self, Outcomes};
+use trials::kind::Kind;
+use trials::{editing, eights, finding, insertions, keying, reading, summarizing, texts};
+
+/// All kinds of trials, in the order in which they are run.
+const KINDS: &[Listed] = &[
+    Listed::of::<reading::Texts>(),
+    Listed::of::<editing::Seen>(),
+    Listed::of::<insertions::Seen>(),
+    Listed::of::<eights::Seen>(),
+    Listed::of::<finding::Seen>(),
+    Listed::of::<summarizing::Seen>(),
+    Listed::of::<keying::Seen>(),
+];
+
+/// Where the texts are in the list: `--short` is for them.
+const TEXTS: usize = 0;
+
+/// Two kinds that turn the seed alike would go by the same random numbers.
+const _: () = {
+    let (mut at, mut taken) = (0, 0u64);
+    while at < KINDS.len() {
+        assert!(taken >> KINDS[at].turn & 1 == 0, "two kinds turn the seed alike");
+        taken |= 1 << KINDS[at].turn;
+        at += 1;
+    }
+};
+
+/// A kind of trials as the list has it: see [`Kind`].
+#[derive(Clone, Copy)]
+struct Listed {
+    plural: &'static str,
+    singular: &'static str,
+    usual: u64,
+    turn: u32,
+    run: fn(&Options, Range<u64>) -> Result<(), String>,
+}
+
+impl Listed {
+    const fn of<K: Kind>() -> Listed {
+        let (plural, singular, usual, turn) = (K::PLURAL, K::SINGULAR, K::USUAL, K::TURN);
+        Listed { plural, singular, usual, turn, run: run::<K> }
+    }
+
+    fn has(&self, option: &str) -> bool {
+        option == self.plural || option == self.singular
+    }
+
+    /// The trials that one of its options asks for with this number.
+    fn numbers(&self, option: &str, number: u64) -> Range<u64> {
+        if option == self.plural {
+            0..number
+        } else {
+            number..number.saturating_add(1)
+        }
+    }
+}
 
 /// What to run.
 struct Options {
-    texts: Range<u64>,
-    histories: Range<u64>,
-    insertions: Range<u64>,
-    checks: Range<u64>,
-    paths: Range<u64>,
-    summaries: Range<u64>,
-    keys: Range<u64>,
+    /// Each kind with the numbers of its trials.
+    kinds: Vec<(Listed, Range<u64>)>,
     seed: u64,
     alone: bool,
-    short: bool,
 }
 
-const USAGE: &str = "trials [--self] [--seed S] [--short | --texts N | --case K] \
-                     [--histories N | --history K] [--insertions N | --insertion K] \
-                     [--checks N | --check K] [--paths N | --path K] \
-                     [--summaries N | --summary K] [--keys N | --key K]";
+fn usage() -> String {
+    let mut usage = "trials [--self] [--seed S]".to_string();
+    for (at, Listed { plural, singular, .. }) in KINDS.iter().enumerate() {
+        let short = if at == TEXTS { "--short | " } else { "" };
+        usage += &format!(" [{short}--{plural} N | --{singular} K]");
+    }
+    usage
+}
 
-fn options() -> Result<Options, String> {
+fn options(mut arguments: impl Iterator<Item = String>) -> Result<Options, String> {
     let now = SystemTime::now().duration_since(SystemTime::UNIX_EPOCH).unwrap_or_default();
-    let (mut texts, mut histories, mut insertions) = (None, None, None);
-    let (mut checks, mut paths, mut summaries, mut keys) = (None, None, None, None);
     let (mut seed, mut alone, mut short) = (now.as_nanos() as u64, false, false);
-    let mut arguments = std::env::args().skip(1);
+    let mut kinds: Vec<_> = KINDS.iter().map(|kind| (*kind, None)).collect();
     while let Some(argument) = arguments.next() {
         let mut number = || {
             let given = arguments.next().unwrap_or_default();
             given.parse::<u64>().map_err(|_| format!("{argument}: not a number: {given:?}"))
         };
-        let only = |number: u64| number..number.saturating_add(1);
         match argument.as_str() {
-            "--texts" => texts = Some(0..number()?),
-            "--case" => texts = Some(only(number()?)),
-            "--histories" => histories = Some(0..number()?),
-            "--history" => histories = Some(only(number()?)),
-            "--insertions" => insertions = Some(0..number()?),
-            "--insertion" => insertions = Some(only(number()?)),
-            "--checks" => checks = Some(0..number()?),
-            "--check" => checks = Some(only(number()?)),
-            "--paths" => paths = Some(0..number()?),
-            "--path" => paths = Some(only(number()?)),
-            "--summaries" => summaries = Some(0..number()?),
-            "--summary" => summaries = Some(only(number()?)),
-            "--keys" => keys = Some(0..number()?),
-            "--key" => keys = Some(only(number()?)),
             "--seed" => seed = number()?,
             "--self" => alone = true,
             "--short" => short = true,
-            _ => return Err(format!("unknown argument {argument}\nusage: {USAGE}")),
+            _ => {
+                let option = argument.strip_prefix("--").unwrap_or_default();
+                let (kind, numbers) = kinds
+                    .iter_mut()
+                    .find(|(kind, _)| kind.has(option))
+                    .ok_or_else(|| format!("unknown argument {argument}\nusage: {}", usage()))?;
+                *numbers = Some(kind.numbers(option, number()?));
+            }
         }
     }
-    if short && texts.get_or_insert(0..texts::SHORT).end > texts::SHORT {
-        return Err(format!("--short has {} texts, numbered from 0", texts::SHORT));
+    if short {
+        let (kind, numbers) = &mut kinds[TEXTS];
+        *kind = Listed::of::<reading::ShortTexts>();
+        if numbers.get_or_insert(0..texts::SHORT).end > texts::SHORT {
+            return Err(format!("--short has {} texts, numbered from 0", texts::SHORT));
+        }
     }
     // What isn't named isn't run, unless nothing is named.
-    let mut named = [texts, histories, insertions, checks, paths, summaries, keys];
-    if named.iter().all(Option::is_none) {
-        let counts = [100_000, 10_000, 20_000, 200_000, 20_000, 20_000, 20_000];
-        named = counts.map(|count| Some(0..count));
-    }
-    let [texts, histories, insertions, checks, paths, summaries, keys] =
-        named.map(|range| range.unwrap_or(0..0));
-    Ok(Options { texts, histories, insertions, checks, paths, summaries, keys, seed, alone, short })
-}
-
-#[cfg(feature = "against")]
-use trials::against::{annotated, checked, compare, edits, found, keyed, summarized};
-
-/// Never called: `main` ends before.
-#[cfg(not(feature = "against"))]
-fn compare(_: &texts::Case, _: &mut Random, _: &mut zeros::Seen) -> Result<(), String> {
-    Ok(())
-}
-
-/// Never called either.
-#[cfg(not(feature = "against"))]
-fn edits(_: &mut Random, _: &mut Seen) -> Result<(), String> {
-    Ok(())
-}
-
-/// Nor is this.
-#[cfg(not(feature = "against"))]
-fn annotated(_: &mut Random, _: &mut insertions::Seen) -> Result<(), String> {
-    Ok(())
-}
-
-/// Nor this.
-#[cfg(not(feature = "against"))]
-fn checked(_: &[u8], _: &mut eights::Seen) -> Result<(), String> {
-    Ok(())
-}
-
-/// And this isn't.
-#[cfg(not(feature = "against"))]
-fn found(_: &mut Random, _: &mut finding::Seen) -> Result<(), String> {
-    Ok(())
-}
-
-/// Nor is this one.
-#[cfg(not(feature = "against"))]
-fn summarized(_: &mut Random, _: &mut summarizing::Seen) -> Result<(), String> {
-    Ok(())
-}
-
-/// This isn't either.
-#[cfg(not(feature = "against"))]
-fn keyed(_: &mut Random, _: &mut keying::Seen) -> Result<(), String> {
-    Ok(())
+    let none_named = kinds.iter().all(|(_, numbers)| numbers.is_none());
+    let unnamed = |kind: Listed| 0..if none_named { kind.usual } else { 0 };
+    let kinds = kinds.into_iter().map(|(kind, numbers)| (kind, numbers.unwrap_or(unnamed(kind))));
+    Ok(Options { kinds: kinds.collect(), seed, alone })
 }
 
 /// A line on standard error every three seconds.
@@ -163,360 +147,39 @@ impl Progress {
     }
 }
 
-/// The random texts, or the short ones. The error is what to print.
-fn run_texts(options: &Options) -> Result<(), String> {
-    let seed = options.seed;
-    let total = options.texts.end - options.texts.start;
-    let mut progress = Progress::new();
-    let mut bytes = 0u64;
-    let mut seen = zeros::Seen::default();
-    for number in options.texts.clone() {
-        let case = if options.short { texts::short(number) } else { texts::case(seed, number) };
-        bytes += case.text.len() as u64;
-        let mut random = Random::for_case(!seed, number);
-        let outcome = if options.alone {
-            trials::check::second_alone(&case, &mut random, &mut seen)
-        } else {
-            compare(&case, &mut random, &mut seen)
-        };
-        outcome.map_err(|difference| {
-            let short = if options.short { "--short " } else { "" };
-            format!(
-                "difference in case {number} of seed {seed} ({}); again: \
-                 {short}--seed {seed} --case {number}\n\
-                 table of {} words, text of {} bytes:\n{}\n{difference}",
-                case.sort,
-                case.words,
-                case.text.len(),
-                case.text.escape_ascii()
-            )
-        })?;
-        progress.tell(|| format!("{} of {total} texts, {bytes} bytes", number + 1));
-    }
-    println!("{total} texts, no difference, {:.1} s", progress.seconds());
-    for (what, outcomes) in [
-        ("with leading zeros", seen.leading),
-        ("with over 1,000 leading zeros", seen.thousand),
-        ("with over 10,000 leading zeros", seen.ten_thousand),
-        ("of over 10,000 bytes without leading zeros", seen.long),
-    ] {
-        let Outcomes { taken, too_wide, malformed } = outcomes;
-        println!(
-            "  exponents {what}: {}; taken {taken}, refused with 5: {too_wide}, with 3: {malformed}",
-            outcomes.all()
-        );
-    }
-    let [none, plus, minus] = seen.signs;
-    println!(
-        "  of those taken with leading zeros: no sign {none}, plus {plus}, minus {minus}; \
-         with underscores {}",
-        seen.grouped
-    );
-    Ok(())
-}
+/// So many trials of a kind must show some of everything that its `rare` looks at.
+const MANY: u64 = 10_000;
 
-/// The histories. The error is what to print.
-fn run_histories(options: &Options) -> Result<(), String> {
+/// Runs these trials of a kind. The error is what to print.
+fn run<K: Kind>(options: &Options, numbers: Range<u64>) -> Result<(), String> {
+    let on_trial = match options.alone {
+        #[cfg(feature = "against")]
+        false => K::DUPER,
+        // Without the feature `main` ends before unless `second` is alone.
+        _ => K::SECOND,
+    };
     let seed = options.seed;
-    let total = options.histories.end - options.histories.start;
+    let total = numbers.end - numbers.start;
     let mut progress = Progress::new();
-    let mut seen = Seen::default();
-    for number in options.histories.clone() {
-        let random = &mut Random::for_case(seed.rotate_left(32), number);
-        let outcome = if options.alone {
-            editing::trial(random, OnTrial::only(editing::second), &mut seen)
-        } else {
-            edits(random, &mut seen)
-        };
-        outcome.map_err(|difference| {
-            format!(
-                "difference in history {number} of seed {seed}; again: \
-                 --seed {seed} --history {number}\n{difference}"
-            )
-        })?;
-        progress.tell(|| {
-            let calls: u64 = seen.histories.iter().sum();
-            format!("{} of {total} histories, {calls} calls", number + 1)
-        });
+    let mut seen = K::default();
+    for number in numbers {
+        seen.trial(seed.rotate_left(K::TURN), number, on_trial)
+            .map_err(|difference| K::told(seed, number, &difference))?;
+        progress.tell(|| format!("{} of {total} {}", number + 1, seen.progress()));
     }
-    let sum = |seen: [u64; 21]| seen.iter().sum::<u64>();
-    println!(
-        "{total} histories of {} calls, and {} single calls, no difference, {:.1} s",
-        sum(seen.histories),
-        sum(seen.single),
-        progress.seconds()
-    );
-    for (what, seen) in [
-        ("histories", seen.histories),
-        ("corrections by a number with leading zeros in its exponent", seen.zeros),
-        ("corrections by one with over 10,000 of them", seen.many_zeros),
-        ("single calls", seen.single),
-    ] {
-        let refused = (1..=20).filter(|&number| seen[number] > 0);
-        let refused: Vec<_> = refused.map(|number| format!("{number}: {}", seen[number])).collect();
-        println!("  {what}: accepted {}; refused {}", seen[0], refused.join(", "));
+    println!("{total} {}, {:.1} s", seen.compared(), progress.seconds());
+    for line in seen.details() {
+        println!("  {line}");
     }
-    Ok(())
-}
-
-/// The texts with insertions. The error is what to print.
-fn run_insertions(options: &Options) -> Result<(), String> {
-    let seed = options.seed;
-    let total = options.insertions.end - options.insertions.start;
-    let mut progress = Progress::new();
-    let mut seen = insertions::Seen::default();
-    for number in options.insertions.clone() {
-        let random = &mut Random::for_case(seed.rotate_left(16), number);
-        let outcome = if options.alone {
-            insertions::trial(random, trials::check::second_read, &mut seen)
-        } else {
-            annotated(random, &mut seen)
-        };
-        outcome.map_err(|difference| {
-            format!(
-                "difference in insertion {number} of seed {seed}; again: \
-                 --seed {seed} --insertion {number}\n{difference}"
-            )
-        })?;
-        progress.tell(|| {
-            let insertions = seen.insertions();
-            format!("{} of {total} texts with {insertions} insertions", number + 1)
-        });
-    }
-    let [tabs, feeds, returns, blanks] = seen.spaces;
-    println!(
-        "{} texts with {} insertions, no difference in {} words, of which {} had moved, {:.1} s",
-        seen.texts,
-        seen.insertions(),
-        seen.words,
-        seen.moved,
-        progress.seconds()
-    );
-    println!(
-        "  inserted: 09: {tabs}, 0A: {feeds}, 0D: {returns}, 20: {blanks}, line comments: {}, \
-         with 0D before the line feed: {}, block comments: {}; nothing: {} texts",
-        seen.line, seen.line_return, seen.block, seen.bare
-    );
-    println!(
-        "  new texts of over 65,536 bytes: {}, of just that many: {}",
-        seen.over_long, seen.full
-    );
-    Ok(())
-}
-
-/// The UTF-8 checks. The error is what to print.
-fn run_checks(options: &Options) -> Result<(), String> {
-    let seed = options.seed;
-    let total = options.checks.end - options.checks.start;
-    let mut progress = Progress::new();
-    let mut seen = eights::Seen::default();
-    for number in options.checks.clone() {
-        let bytes = bytes::case(seed.rotate_left(48), number);
-        let outcome = if options.alone {
-            eights::trial(&bytes, second::utf8::check, &mut seen)
-        } else {
-            checked(&bytes, &mut seen)
-        };
-        outcome.map_err(|difference| {
-            format!(
-                "difference in check {number} of seed {seed}; again: \
-                 --seed {seed} --check {number}\n{difference}"
-            )
-        })?;
-        progress.tell(|| format!("{} of {total} checks, {} bytes", number + 1, seen.bytes));
-    }
-    println!(
-        "{} UTF-8 checks of {} bytes, no difference, {:.1} s",
-        seen.cases,
-        seen.bytes,
-        progress.seconds()
-    );
-    println!(
-        "  with a fault: {}, of which behind an eight: {}; of over 65,536 bytes: {}; eights: {}",
-        seen.faulty, seen.behind, seen.long, seen.eights
-    );
-    Ok(())
-}
-
-/// The texts with paths. The error is what to print.
-fn run_paths(options: &Options) -> Result<(), String> {
-    let seed = options.seed;
-    let total = options.paths.end - options.paths.start;
-    let mut progress = Progress::new();
-    let mut seen = finding::Seen::default();
-    for number in options.paths.clone() {
-        let random = &mut Random::for_case(seed.rotate_left(24), number);
-        let outcome = if options.alone {
-            finding::trial(random, finding::OnTrial::only(finding::second_find), &mut seen)
-        } else {
-            found(random, &mut seen)
-        };
-        outcome.map_err(|difference| {
-            format!(
-                "difference in path {number} of seed {seed}; again: \
-                 --seed {seed} --path {number}\n{difference}"
-            )
-        })?;
-        progress.tell(|| format!("{} of {total} texts with {} paths", number + 1, seen.paths));
-    }
-    println!(
-        "{total} texts with {} paths, no difference in answers and {} words, {:.1} s",
-        seen.paths,
-        seen.words,
-        progress.seconds()
-    );
-    println!(
-        "  texts: {} documents, {} of them damaged, and {} others; answers known beforehand: {}",
-        seen.documents + seen.damaged,
-        seen.damaged,
-        seen.elsewhere,
-        seen.known
-    );
-    println!(
-        "  found: {}, the root {} times; by at most {} steps, and up to node {}; longest path: \
-         {} bytes",
-        seen.found, seen.roots, seen.deepest, seen.greatest, seen.longest
-    );
-    println!(
-        "  refused with 23: {}, by step {}",
-        seen.stuck.values().sum::<u64>(),
-        listed(&seen.stuck)
-    );
-    println!(
-        "  refused by the reading: {}, by number {}",
-        seen.refused.values().sum::<u64>(),
-        listed(&seen.refused)
-    );
-    println!("  paths by sort: {}", listed(&seen.sorts));
-    Ok(())
-}
-
-/// So many texts to be summarized, or of many keys, must show some of everything
-/// that is counted.
-const MANY_TEXTS: u64 = 10_000;
-
-/// The texts to be summarized. The error is what to print.
-fn run_summaries(options: &Options) -> Result<(), String> {
-    let seed = options.seed;
-    let total = options.summaries.end - options.summaries.start;
-    let mut progress = Progress::new();
-    let mut seen = summarizing::Seen::default();
-    for number in options.summaries.clone() {
-        let random = &mut Random::for_case(seed.rotate_left(40), number);
-        let outcome = if options.alone {
-            summarizing::trial(
-                random,
-                summarizing::OnTrial::only(summarizing::second_summary),
-                &mut seen,
-            )
-        } else {
-            summarized(random, &mut seen)
-        };
-        outcome.map_err(|difference| {
-            format!(
-                "difference in summary {number} of seed {seed}; again: \
-                 --seed {seed} --summary {number}\n{difference}"
-            )
-        })?;
-        progress.tell(|| format!("{} of {total} texts with {} summaries", number + 1, seen.calls));
-    }
-    println!(
-        "{total} texts with {} summaries, no difference in answers and {} words, {:.1} s",
-        seen.calls,
-        seen.words,
-        progress.seconds()
-    );
-    println!(
-        "  texts: {} of records, {} with something done to them, and {} others; answers known \
-         beforehand: {}",
-        seen.documents, seen.damaged, seen.elsewhere, seen.known
-    );
-    let [measured, null, absent, unfit] = seen.records;
-    println!(
-        "  records: measured {measured}, null {null}, absent {absent}, unfit {unfit}; at most {} \
-         in a text",
-        seen.most
-    );
-    println!(
-        "  summaries with heights: {}, without any: {}; refused with 21 at the root: {}, at an \
-         element: {}",
-        seen.with_heights, seen.without_heights, seen.root, seen.element
-    );
-    println!(
-        "  refused by the reading: {}, by number {}",
-        seen.refused.values().sum::<u64>(),
-        listed(&seen.refused)
-    );
     let rare = seen.rare();
-    if total >= MANY_TEXTS && !rare.is_empty() {
+    if total >= MANY && !rare.is_empty() {
         return Err(format!("no trial of what hardly came up: {}", rare.join(", ")));
     }
     Ok(())
-}
-
-/// The texts of many keys. The error is what to print.
-fn run_keys(options: &Options) -> Result<(), String> {
-    let seed = options.seed;
-    let total = options.keys.end - options.keys.start;
-    let mut progress = Progress::new();
-    let mut seen = keying::Seen::default();
-    for number in options.keys.clone() {
-        let random = &mut Random::for_case(seed.rotate_left(56), number);
-        let outcome = if options.alone {
-            keying::trial(random, trials::check::second_read, &mut seen)
-        } else {
-            keyed(random, &mut seen)
-        };
-        outcome.map_err(|difference| {
-            format!(
-                "difference in key {number} of seed {seed}; again: \
-                 --seed {seed} --key {number}\n{difference}"
-            )
-        })?;
-        progress.tell(|| format!("{} of {total} texts of many keys", number + 1));
-    }
-    println!(
-        "{total} texts of many keys, no difference in answers and {} words, {:.1} s",
-        seen.words,
-        progress.seconds()
-    );
-    println!(
-        "  objects of more than {} keys: {}; the most in one object: {}",
-        keying::MANY,
-        seen.objects,
-        seen.most
-    );
-    println!(
-        "  duplicates reported: {}, of which spelled otherwise than the first: {}, in an object \
-         of more than {} keys: {}, of over 2,046 bytes: {}, with another fault later: {}",
-        seen.doubled(),
-        seen.otherwise,
-        keying::MANY,
-        seen.in_many,
-        seen.long,
-        seen.later
-    );
-    println!(
-        "  taken: {}; refused by number {}; with a duplicate behind another fault: {}",
-        seen.taken,
-        listed(&seen.refused),
-        seen.behind
-    );
-    let rare = seen.rare();
-    if total >= MANY_TEXTS && !rare.is_empty() {
-        return Err(format!("no trial of what hardly came up: {}", rare.join(", ")));
-    }
-    Ok(())
-}
-
-/// What came up, each with its count.
-fn listed(counts: &BTreeMap<impl Display, u64>) -> String {
-    let counts: Vec<_> = counts.iter().map(|(what, count)| format!("{what}: {count}")).collect();
-    counts.join(", ")
 }
 
 fn main() -> ExitCode {
-    let options = match options() {
+    let options = match options(std::env::args().skip(1)) {
         Ok(options) => options,
         Err(message) => {
             eprintln!("{message}");
@@ -528,33 +191,25 @@ fn main() -> ExitCode {
         return ExitCode::from(2);
     }
     println!("seed {}", options.seed);
-    let mut outcome = Ok(());
-    if !options.texts.is_empty() {
-        outcome = run_texts(&options);
-    }
-    if outcome.is_ok() && !options.histories.is_empty() {
-        outcome = run_histories(&options);
-    }
-    if outcome.is_ok() && !options.insertions.is_empty() {
-        outcome = run_insertions(&options);
-    }
-    if outcome.is_ok() && !options.checks.is_empty() {
-        outcome = run_checks(&options);
-    }
-    if outcome.is_ok() && !options.paths.is_empty() {
-        outcome = run_paths(&options);
-    }
-    if outcome.is_ok() && !options.summaries.is_empty() {
-        outcome = run_summaries(&options);
-    }
-    if outcome.is_ok() && !options.keys.is_empty() {
-        outcome = run_keys(&options);
-    }
-    match outcome {
+    let mut kinds = options.kinds.iter().filter(|(_, numbers)| !numbers.is_empty());
+    match kinds.try_for_each(|(kind, numbers)| (kind.run)(&options, numbers.clone())) {
         Ok(()) => ExitCode::SUCCESS,
         Err(difference) => {
             println!("{difference}");
             ExitCode::FAILURE
         }
+    }
+}
+
+#[cfg(test)]
+mod tests {
+    use super::*;
+
+    #[test]
+    fn options_are_different() {
+        let all = KINDS.iter().flat_map(|kind| [kind.plural, kind.singular]);
+        let mut all: Vec<_> = all.chain(["self", "seed", "short"]).collect();
+        all.sort_unstable();
+        assert!(all.windows(2).all(|two| two[0] != two[1]), "{all:?}");
     }
 }
