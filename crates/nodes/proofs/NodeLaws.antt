@@ -17,9 +17,10 @@ use Rattle.reader.specs.Tree.{Tree, leaf, branch, Forest, nil, cons, size, size
 use Rattle.reader.specs.Syntax.{Outcome, taken, refused}
 use Rattle.reader.specs.Reading.{tableOf, wordOf, nodeCount}
 use Rattle.reader.proofs.TableLaws.{length-rows}
+use Rattle.reader.proofs.RowLaws.{size-pos}
 use Rattle.nodes.specs.Nodes.{nodeAt, nodeIn, nodeOf, childrenOf, Numbered, numbered, firstThat, nth}
 use Rattle.nodes.specs.Stands.{Node}
-use Rattle.nodes.proofs.WordLaws.{some-is, none-is, words-left, size-pos, word-parent}
+use Rattle.nodes.proofs.WordLaws.{some-is, none-is, words-left, word-parent}
 use Rattle.nodes.proofs.WalkLaws.{Ahead, ahead-all, ahead-node, ahead-next}
 
 -- ---- values side by side

@@ -11,9 +11,10 @@ use Rattle.reader.specs.declared.tree.Kind.{Kind}
 use Rattle.reader.specs.Tree.{Head, Tree, leaf, branch, Forest, nil, cons, size, sizes, count, headWords, kindNumber, rows, rowsAll, nodeWords}
 use Rattle.reader.specs.Reading.{wordOf}
 use Rattle.reader.proofs.TableLaws.{length-rows}
+use Rattle.reader.proofs.RowLaws.{size-pos}
 use Rattle.nodes.specs.Nodes.{childrenOf, Numbered, nth}
 use Rattle.nodes.specs.Stands.{WordsAt, Node}
-use Rattle.nodes.proofs.WordLaws.{some-is, none-is, words-left, words-right, size-pos, heads, word-parent, word-next}
+use Rattle.nodes.proofs.WordLaws.{some-is, none-is, words-left, words-right, heads, word-parent, word-next}
 
 -- the values f stand in the table side by side, the first as the node x: they are the last children of n
 pub record Ahead (table : List ℕ) (n x : ℕ) (f : Forest) : Type 0 where

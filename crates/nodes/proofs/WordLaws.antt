@@ -12,6 +12,7 @@ use Rattle.reader.specs.Tree as T
 use Rattle.reader.specs.Tree.{Span, Head, Scalar, Tree, leaf, branch, headOf, size, sizes, count, spanWords, headWords, kindNumber, scalarNumber, scalarWords, rows, rowsAll, nodeWords}
 use Rattle.reader.specs.Reading.{wordOf}
 use Rattle.reader.proofs.TableLaws.{length-rows}
+use Rattle.reader.proofs.RowLaws.{size-pos}
 use Rattle.nodes.specs.Nodes.{kindOf}
 use Rattle.nodes.specs.Stands.{WordsAt, Node}
 
@@ -39,11 +40,6 @@ module _ (table : List ℕ) where
             ∙ H .same (length a + i) (let l = length-append a b in omega arith)
             ∙ getD-append-add a b i 0;
       }
-
-pub size-pos : (t : Tree) → 1 ≤ size t
-unfolding size
-size-pos (leaf h s) = omega arith
-size-pos (branch h k f) = omega arith
 
 -- ---- the words of a node
 

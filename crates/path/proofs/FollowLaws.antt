@@ -23,12 +23,13 @@ use Rattle.reader.specs.declared.tree.Kind.the-variants.{Object, Array, Tuple}
 use Rattle.reader.specs.Syntax.{Outcome, taken, refused}
 use Rattle.reader.specs.Reading.{wordOf, tableOf, answerOf}
 use Rattle.reader.specs.declared.read.Reading.the-variants as R
+use Rattle.reader.proofs.RowLaws.{size-pos}
 use Rattle.nodes.specs.Nodes.{kindOf, childrenOf, Numbered, numbered, nth, hasKey, member, element}
 use Rattle.nodes.specs.Answers.{childAnswer}
 use Rattle.nodes.specs.Stands.{Node, Stands, KindIs, MemberIs, ElementIs}
 use Rattle.nodes.specs.declared.children.Child.{Child}
 use Rattle.nodes.specs.declared.children.Child.the-variants as C
-use Rattle.nodes.proofs.WordLaws.{size-pos, scalar-high, word-next}
+use Rattle.nodes.proofs.WordLaws.{scalar-high, word-next}
 use Rattle.nodes.proofs.NodeLaws.{Among, first-among, nth-among, child-stands, root-node}
 use Rattle.nodes.proofs.ChildLaws.{answer-at, answer-nothing}
 use Rattle.path.specs.Path.{pieces, steps, index, indexed, child, onward, follow, found}

@@ -13,8 +13,8 @@ use Rattle.reader.specs.Syntax.{Outcome, taken, refused}
 use Rattle.reader.specs.Reading.{reading, nodeCount, maxText, maxNodes}
 use Rattle.reader.proofs.PlaceBound.{PlaceWithin, place-law}
 use Rattle.reader.proofs.SizeLaws.{count-law}
+use Rattle.reader.proofs.RowLaws.{size-pos}
 use Rattle.nodes.specs.Nodes.{nodeAt, Numbered}
-use Rattle.nodes.proofs.WordLaws.{size-pos}
 use Rattle.nodes.proofs.NodeLaws.{node-fits, child-node, node-root}
 use Rattle.path.specs.Path.{steps, child, onward, follow, found}
 use Rattle.path.specs.declared.find.Found.{Found}

@@ -33,7 +33,7 @@ use Rattle.reader.specs.Tree.{Span, branch, Forest, nil, snoc, count, si
 use Rattle.reader.specs.Reading.{maxNodes}
 use Rattle.reader.specs.Syntax.{Label, label, Frame, frame, Slot, after, Mode, value, Config, config, refuseIf, Begins, container, isObject, headBy, ended, finished, noNode, counted, valueStep, Outcome, refused, afterStep}
 use Rattle.reader.specs.Internal.Tokens.{beginsAt}
-use Rattle.reader.specs.Internal.Values.{spanAt, labelOf, SpansApart, freshDue, noChildren, runFrom, nodesAt, opened, openedHere, KeyAt, SiblingKeys, duplicateIn, keyDuplicate, unlessDuplicate, placeOf, turnOf, innerAt, Known, Valued, Ends, Refuses, RefusesAfter, ItemIs, ChildAt, Ready, Placed, Roomy, isFull, openingRefusal, ValueRead, ValueRefused, ProgressIs, openedBy, ReadAs, Keys, FirstDuplicate, RefusedLate, RefusedLateAfter, branchProgress, branchTable, BranchEnded}
+use Rattle.reader.specs.Internal.Values.{spanAt, labelOf, SpansApart, freshDue, noChildren, runFrom, nodesAt, opened, openedHere, KeyAt, SiblingKeys, duplicateIn, keyDuplicate, unlessDuplicate, placeOf, turnOf, innerAt, KnownKeys, Valued, Ends, Refuses, RefusesAfter, ItemIs, ChildAt, Ready, Placed, Roomy, isFull, openingRefusal, ValueRead, ValueRefused, ProgressIs, openedBy, ReadAs, Keys, FirstDuplicate, RefusedLate, RefusedLateAfter, branchProgress, branchTable, BranchEnded}
 use Rattle.reader.proofs.SizeLaws.{sizes-snoc, count-snoc}
 use Rattle.text.proofs.ListLaws.{getD-before-sets}
 use Rattle.reader.proofs.KeyWalk.{siblings-more}
@@ -83,8 +83,8 @@ module _ {sw : Switches} {s : List ℕ} {kind : Kind} {z i : ℕ} {r : Item} whe
   pub item-refused : {f : Refusal} → r ≡ I.Refused f → ChildAt sw s kind z i r → Refuses sw s kind i (turnOf z) (f .number) (f .place)
   item-refused e h = subst (ItemIs sw s kind i (turnOf z)) e (h .is)
 
-  pub field-refused : {key : CS.Span} {f : Refusal} → r ≡ I.RefusedAfter key f → ChildAt sw s kind z i r → RefusesAfter sw s kind i (turnOf z) (f .number) (f .place) (key .start) (key .stop)
-  field-refused e h = subst (ItemIs sw s kind i (turnOf z)) e (h .is)
+  pub item-refused-after : {key : CS.Span} {f : Refusal} → r ≡ I.RefusedAfter key f → ChildAt sw s kind z i r → RefusesAfter sw s kind i (turnOf z) (f .number) (f .place) (key .start) (key .stop)
+  item-refused-after e h = subst (ItemIs sw s kind i (turnOf z)) e (h .is)
 
 -- ---- a value that is due afresh
 
@@ -114,19 +114,19 @@ fresh-ready {limits} {tab} e w b ok =
 -- ---- what comes late, by the first child's node
 
 module _ {sw : Switches} {s : List ℕ} {kind : Kind} {tab : List ℕ} {c : Children} {x : ℕ} (e : c .first ≡ x) where
-  first-from : {r : Duplicate} → FirstDuplicate sw s kind tab c r → (ks : List (List ℕ)) → Known sw s kind tab x (c .next) ks → placeOf r ≡ duplicateIn kind tab x ks
-  first-from {r} F ks = subst (λ (y : ℕ). Known sw s kind tab y (c .next) ks → placeOf r ≡ duplicateIn kind tab y ks) e (F .is ks)
+  first-from : {r : Duplicate} → FirstDuplicate sw s kind tab c r → (ks : List (List ℕ)) → KnownKeys sw s kind tab x (c .next) ks → placeOf r ≡ duplicateIn kind tab x ks
+  first-from {r} F ks = subst (λ (y : ℕ). KnownKeys sw s kind tab y (c .next) ks → placeOf r ≡ duplicateIn kind tab y ks) e (F .is ks)
 
-  late-from : {f r : Refusal} → RefusedLate sw s kind tab c f r → (ks : List (List ℕ)) → Known sw s kind tab x (c .next) ks
+  late-from : {f r : Refusal} → RefusedLate sw s kind tab c f r → (ks : List (List ℕ)) → KnownKeys sw s kind tab x (c .next) ks
       → refused (r .number) (r .place) ≡ unlessDuplicate (duplicateIn kind tab x ks) (refused (f .number) (f .place))
   late-from {f} {r} L ks =
-      subst (λ (y : ℕ). Known sw s kind tab y (c .next) ks → refused (r .number) (r .place) ≡ unlessDuplicate (duplicateIn kind tab y ks) (refused (f .number) (f .place))) e (L .is ks)
+      subst (λ (y : ℕ). KnownKeys sw s kind tab y (c .next) ks → refused (r .number) (r .place) ≡ unlessDuplicate (duplicateIn kind tab y ks) (refused (f .number) (f .place))) e (L .is ks)
 
-  late-after-from : {key : CS.Span} {f r : Refusal} → RefusedLateAfter sw s kind tab c key f r → (ks : List (List ℕ)) → Known sw s kind tab x (c .next) ks
+  late-after-from : {key : CS.Span} {f r : Refusal} → RefusedLateAfter sw s kind tab c key f r → (ks : List (List ℕ)) → KnownKeys sw s kind tab x (c .next) ks
       → (w : List ℕ) → (isObject kind ≡ true → KeyAt sw s (key .start) (key .stop) w)
       → refused (r .number) (r .place) ≡ unlessDuplicate (duplicateIn kind tab x ks) (unlessDuplicate (keyDuplicate kind (key .start) ks w) (refused (f .number) (f .place)))
   late-after-from {key} {f} {r} L ks =
-      subst (λ (y : ℕ). Known sw s kind tab y (c .next) ks → (w : List ℕ) → (isObject kind ≡ true → KeyAt sw s (key .start) (key .stop) w) → refused (r .number) (r .place) ≡ unlessDuplicate (duplicateIn kind tab y ks) (unlessDuplicate (keyDuplicate kind (key .start) ks w) (refused (f .number) (f .place)))) e (L .is ks)
+      subst (λ (y : ℕ). KnownKeys sw s kind tab y (c .next) ks → (w : List ℕ) → (isObject kind ≡ true → KeyAt sw s (key .start) (key .stop) w) → refused (r .number) (r .place) ≡ unlessDuplicate (duplicateIn kind tab y ks) (unlessDuplicate (keyDuplicate kind (key .start) ks w) (refused (f .number) (f .place)))) e (L .is ks)
 
 -- ---- the loop
 
@@ -134,7 +134,7 @@ turn-after : (z : ℕ) → after ≡ turnOf (z + 1)
 turn-after z = let n : z + 1 ≡ 0 → ⊥ = λ q. omega arith in rw (ne-eqb (z + 1) 0 n)
 
 module _ {sw : Switches} {limits : Limits} {s : List ℕ} {kind : Kind} {l : Label} {ω : List Frame → Outcome} {o d n : ℕ} {tin : List ℕ} where
-  known : {ts : Forest} {ks : List (List ℕ)} {τ : List Frame → Config} {i m z : ℕ} {tab : List ℕ} → Body sw limits s kind l ω o d n tin ts ks τ i m z tab → Known sw s kind tab (n + 1) m ks
+  known : {ts : Forest} {ks : List (List ℕ)} {τ : List Frame → Config} {i m z : ℕ} {tab : List ℕ} → Body sw limits s kind l ω o d n tin ts ks τ i m z tab → KnownKeys sw s kind tab (n + 1) m ks
   known B = record { siblings = B .siblings }
 
   -- the children's rows are behind the container's own
@@ -332,21 +332,21 @@ pub node-left : (nodes : ℕ) (fresh : Bool) (n : ℕ) → (fresh && leb nodes n
 node-left nodes true n e h = leb-false nodes n e
 node-left nodes false n e h = h refl
 
--- a container that is due is not refused where it opens
-pub record Opens (limits : Limits) (due : Due) : Type 0 where
+-- a container that is due is not refused where it may-open
+pub record MayOpen (limits : Limits) (due : Due) : Type 0 where
   pub shallow : due .spot .depth < limits .depth
   pub roomy : isFull limits due ≡ false
 
-pub opens : {limits : Limits} {due : Due} {number : ℕ} → number ≡ openingRefusal limits due → number ≡ 0 → Opens limits due
-opens {limits} {due} {number} e z = by (leb (limits .depth) (due .spot .depth)) (isFull limits due) refl refl e
+pub may-open : {limits : Limits} {due : Due} {number : ℕ} → number ≡ openingRefusal limits due → number ≡ 0 → MayOpen limits due
+may-open {limits} {due} {number} e z = by (leb (limits .depth) (due .spot .depth)) (isFull limits due) refl refl e
   where
-    by : (deep full : Bool) → leb (limits .depth) (due .spot .depth) ≡ deep → isFull limits due ≡ full → number ≡ cond deep 9 (cond full 10 0) → Opens limits due
+    by : (deep full : Bool) → leb (limits .depth) (due .spot .depth) ≡ deep → isFull limits due ≡ full → number ≡ cond deep 9 (cond full 10 0) → MayOpen limits due
     by true full p q h = absurd (omega arith)
     by false true p q h = absurd (omega arith)
     by false false p q h = record { shallow = leb-false (limits .depth) (due .spot .depth) p; roomy = q }
 
-pub opens-node : {limits : Limits} {due : Due} {tab : List ℕ} → Opens limits due → Ready limits tab due → due .spot .node < limits .nodes
-opens-node {limits} {due} o R = node-left (limits .nodes) (due .fresh) (due .spot .node) (o .roomy) (R .counted)
+pub open-node : {limits : Limits} {due : Due} {tab : List ℕ} → MayOpen limits due → Ready limits tab due → due .spot .node < limits .nodes
+open-node {limits} {due} o R = node-left (limits .nodes) (due .fresh) (due .spot .node) (o .roomy) (R .counted)
 
 module _ (rules : Rules) (s : List ℕ) (due : Due) (bracket : CS.Span) (kind : Kind) (tab : List ℕ) where
   abbrev OpenRefused : ℕ → Type 0
@@ -374,8 +374,8 @@ module _ (rules : Rules) (s : List ℕ) (due : Due) (bracket : CS.Span) (kind : 
             rw (lt-leb (rules .limits .depth) (length stack) g, no-node (rules .limits) stack (value (due .any) none) (due .fresh) (due .spot .node), f);
       }
 
-  pub opens-not : {number : ℕ} → number ≡ openingRefusal (rules .limits) due → (number ≡ 0 → ⊥) → ReadAs rules s due bracket (container kind) tab tab (A.Refused (refusal number (bracket .start)))
-  opens-not {number} e some = record { is = by (leb (rules .limits .depth) (due .spot .depth)) (isFull (rules .limits) due) refl refl e }
+  pub open-refused : {number : ℕ} → number ≡ openingRefusal (rules .limits) due → (number ≡ 0 → ⊥) → ReadAs rules s due bracket (container kind) tab tab (A.Refused (refusal number (bracket .start)))
+  open-refused {number} e some = record { is = by (leb (rules .limits .depth) (due .spot .depth)) (isFull (rules .limits) due) refl refl e }
     where
       by : (deep full : Bool) → leb (rules .limits .depth) (due .spot .depth) ≡ deep → isFull (rules .limits) due ≡ full → number ≡ cond deep 9 (cond full 10 0)
           → OpenRefused number
@@ -383,7 +383,7 @@ module _ (rules : Rules) (s : List ℕ) (due : Due) (bracket : CS.Span) (kind : 
       by false true p q h = subst OpenRefused (sym h) (open-full (leb-false (rules .limits .depth) (due .spot .depth) p) q)
       by false false p q h = absurd (some h)
 
-  start-none : Opens (rules .limits) due → Ready (rules .limits) tab due → Placed s bracket
+  start-none : MayOpen (rules .limits) due → Ready (rules .limits) tab due → Placed s bracket
       → Within (rules .sw) (rules .limits) s kind (labelOf (due .label)) (openedBy rules s due bracket (container kind)) (bracket .start) (due .spot .depth) (due .spot .node) tab nil [] (bracket .stop) (due .spot .node + 1) 0 tab
   unfolding opened valueStep refuseIf afterStep count sizes rowsAll unlessDuplicate
   start-none o R P =
@@ -391,7 +391,7 @@ module _ (rules : Rules) (s : List ℕ) (due : Due) (bracket : CS.Span) (kind : 
         counted = refl;
         grew = omega arith;
         few = omega arith;
-        below = let h = opens-node o R in omega arith;
+        below = let h = open-node o R in omega arith;
         ahead = P .ordered;
         inside = P .inside;
         room = R .table .room;
@@ -405,11 +405,11 @@ module _ (rules : Rules) (s : List ℕ) (due : Due) (bracket : CS.Span) (kind : 
             rw (duplicate-in-none kind tab (due .spot .node + 1), lt-leb (rules .limits .depth) (length stack) g, no-node (rules .limits) stack (value (due .any) none) (due .fresh) (due .spot .node), o .roomy, count-one (rules .limits) stack (value (due .any) none) (due .fresh) (due .spot .node));
       }
 
-  pub body-start : {c : Children} → c ≡ noChildren (due .spot .node + 1) → Opens (rules .limits) due → Ready (rules .limits) tab due → Placed s bracket
+  pub body-start : {c : Children} → c ≡ noChildren (due .spot .node + 1) → MayOpen (rules .limits) due → Ready (rules .limits) tab due → Placed s bracket
       → Within (rules .sw) (rules .limits) s kind (labelOf (due .label)) (openedBy rules s due bracket (container kind)) (bracket .start) (due .spot .depth) (due .spot .node) tab nil [] (bracket .stop) (c .next) (c .count) tab
   body-start e o R P =
       subst (λ (c : Children). Within (rules .sw) (rules .limits) s kind (labelOf (due .label)) (openedBy rules s due bracket (container kind)) (bracket .start) (due .spot .depth) (due .spot .node) tab nil [] (bracket .stop) (c .next) (c .count) tab)
       (sym e) (start-none o R P)
 
-pub first-is : {c : Children} {node : ℕ} → c ≡ noChildren node → c .first ≡ node
-first-is e = ap (λ (c : Children). c .first) e
+pub no-children-first : {c : Children} {node : ℕ} → c ≡ noChildren node → c .first ≡ node
+no-children-first e = ap (λ (c : Children). c .first) e

@@ -31,17 +31,17 @@ use Rattle.reader.proofs.PathLaws.{Moves, Path}
 -- ---- what a token leaves behind
 
 -- where a value may come
-unfoldable pub Ready : Mode → Type 0
-Ready (value any key) = Unit {0}
-Ready (named any l) = ⊥
-Ready (inner any l) = ⊥
-Ready (close t) = ⊥
-Ready (inside first) = Unit {0}
-Ready (inside lone) = ⊥
-Ready (inside after) = ⊥
-Ready (inside more) = Unit {0}
-Ready (colon k) = ⊥
-Ready (done t) = ⊥
+unfoldable pub MayCome : Mode → Type 0
+MayCome (value any key) = Unit {0}
+MayCome (named any l) = ⊥
+MayCome (inner any l) = ⊥
+MayCome (close t) = ⊥
+MayCome (inside first) = Unit {0}
+MayCome (inside lone) = ⊥
+MayCome (inside after) = ⊥
+MayCome (inside more) = Unit {0}
+MayCome (colon k) = ⊥
+MayCome (done t) = ⊥
 
 unfoldable IsMark : Form → Type 0
 IsMark (L.mark b) = Unit {0}
@@ -71,7 +71,7 @@ StopsAt n (done t) = headOf t .value .stop ≡ n
 
 -- a value may come only after a mark, and the whole ends with the last token
 unfoldable After : Token → Step → Type 0
-After t (go d) = (Ready (d .mode) → IsMark (t .form)) × StopsAt (t .stop) (d .mode)
+After t (go d) = (MayCome (d .mode) → IsMark (t .form)) × StopsAt (t .stop) (d .mode)
 After t (refuse k) = Unit {0}
 
 MarkIf : Form → Begins → Type 0
@@ -107,17 +107,17 @@ module _ (sw : Switches) (limits : Limits) (t : Token) where
   after-or false k s h = h
 
   finished-after : (fs : List Frame) (n : ℕ) (u : Tree) → headOf u .value .stop ≡ t .stop → After t (go (finished fs n u))
-  unfolding finished After Ready StopsAt
+  unfolding finished After MayCome StopsAt
   finished-after [] n u e = (λ r. absurd r, e)
   finished-after (f ∷ fs) n u e = (λ r. absurd r, tt)
 
   ended-after : (fs : List Frame) (n : ℕ) (o : Option Span) (u : Tree) → headOf u .value .stop ≡ t .stop → After t (go (ended fs n o u))
-  unfolding ended After Ready StopsAt
+  unfolding ended After MayCome StopsAt
   ended-after fs n none u e = finished-after fs n u e
   ended-after fs n (some s) u e = (λ r. absurd r, tt)
 
   value-after : (c : Config) (fresh any : Bool) (l : Label) (b : Begins) → MarkIf (t .form) b → After t (valueStep limits c fresh any l t b)
-  unfolding valueStep After Ready StopsAt MarkIf headOf headBy
+  unfolding valueStep After MayCome StopsAt MarkIf headOf headBy
   value-after c fresh any l (container k) m = after-or _ 9 _ (after-or _ 10 _ (λ _. m, tt))
   value-after c fresh any l (scalar s) m =
       after-or _ 7 _ (after-or _ 10 _ (ended-after (c .stack) (counted limits fresh c) (l .name) (leaf (headBy l (t .stop)) s) refl))
@@ -129,7 +129,7 @@ module _ (sw : Switches) (limits : Limits) (t : Token) where
   fresh-after c any key = value-after c true any (label (t .start) key none) (begins (spanOf t) (t .form)) (begins-mark (spanOf t) (t .form))
 
   key-after : (f : Frame) (fs : List Frame) (n : ℕ) (u : Span) (k : Option (List ℕ)) → After t (keyStep f fs n u k)
-  unfolding keyStep After Ready StopsAt
+  unfolding keyStep After MayCome StopsAt
   key-after f fs n u none = tt
   key-after f fs n u (some k) = after-or _ 8 _ (λ r. absurd r, tt)
 
@@ -144,7 +144,7 @@ module _ (sw : Switches) (limits : Limits) (t : Token) where
       (λ _. ended-after fs (c .nodes) (f .label .name) (branch (headBy (f .label) (t .stop)) (f .kind) (f .children)) refl) (λ _. h)
 
   slot-after : (c : Config) (slot : Slot) (fs : List Frame) → After t (slotStep sw limits c t slot fs)
-  unfolding slotStep After Ready StopsAt
+  unfolding slotStep After MayCome StopsAt
   slot-after c slot [] = tt
   slot-after c first (f ∷ fs) =
       close-after c f fs _ (cond-both (After t) (isComma (t .form) && emptyByComma sw (f .kind)) (λ _. (λ r. absurd r, tt)) (λ _. child-after c f fs))
@@ -153,7 +153,7 @@ module _ (sw : Switches) (limits : Limits) (t : Token) where
   slot-after c more (f ∷ fs) = close-after c f fs _ (child-after c f fs)
 
   mode-after : (c : Config) (m : Mode) → After t (modeStep sw limits c t m)
-  unfolding modeStep After Ready StopsAt
+  unfolding modeStep After MayCome StopsAt
   mode-after c (value any key) = fresh-after c any key
   mode-after c (named any l) = cond-both (After t) (isMark "(" (t .form)) (λ _. (λ r. absurd r, tt)) (λ _. tt)
   mode-after c (inner any l) = value-after c false any l (begins (spanOf t) (t .form)) (begins-mark (spanOf t) (t .form))
@@ -180,7 +180,7 @@ mark-seam (L.decimal minus n p) z z′ m = absurd m
 
 module _ (sw : Switches) (limits : Limits) (from : ℕ) (c₀ : Config) where
   -- where a value begins anything may stand: only marks, spaces and block comments go before it
-  pub ready-follows : {pre z : List ℕ} {c : Config} (p : Path sw limits from c₀ pre z c) (z′ : List ℕ) → Ready (c .mode) → heads notNewline z ≡ true
+  pub ready-follows : {pre z : List ℕ} {c : Config} (p : Path sw limits from c₀ pre z c) (z′ : List ℕ) → MayCome (c .mode) → heads notNewline z ≡ true
       → Follows sw (Moves sw limits) from c₀ p z′
   unfolding Follows ItemSeam After
   ready-follows here z′ r h = tt

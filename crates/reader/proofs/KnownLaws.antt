@@ -23,7 +23,7 @@ use Rattle.reader.specs.Syntax.{Label, Frame, Slot, first, lone, after, 
 use Rattle.reader.proofs.TableLaws.{AllSpans, AllSpansIn, snoc-spans}
 use Rattle.reader.proofs.PathLaws.{Path, path-run, whole-path}
 use Rattle.reader.proofs.AwaitLaws.{Awaits, anyOf, value-awaits, first-awaits, more-awaits}
-use Rattle.reader.proofs.EdgeLaws.{Ready}
+use Rattle.reader.proofs.EdgeLaws.{MayCome}
 
 -- the first byte of a token is no line's end
 token-opens : (sw : Switches) (b : ℕ) (y : List ℕ) (form : Form) (n : ℕ) → item sw b y ≡ L.token form n → notNewline b ≡ true
@@ -49,7 +49,7 @@ module _ (sw : Switches) (limits : Limits) (s : List ℕ) (tree : Tree) where
     pub path : Path sw limits 0 (before false) pre rest at
     pub stack : at .stack ≡ S
     pub awaits : Awaits sw limits (anyOf S) at
-    pub ready : Ready (at .mode)
+    pub ready : MayCome (at .mode)
     pub opens : heads notNewline rest ≡ true
     pub low : AsciiHead rest
 
@@ -112,7 +112,7 @@ module _ (sw : Switches) (limits : Limits) (s : List ℕ) (tree : Tree) where
     StepKnown (go d) = Finishes d → Inv d
     StepKnown (refuse k) = Unit {0}
 
-    entered-here : (c : Config) → Path sw limits 0 (before false) pre (b ∷ (x ++ z)) c → Awaits sw limits (anyOf (c .stack)) c → Ready (c .mode)
+    entered-here : (c : Config) → Path sw limits 0 (before false) pre (b ∷ (x ++ z)) c → Awaits sw limits (anyOf (c .stack)) c → MayCome (c .mode)
         → Entered (c .stack) (t .start)
     unfolding heads AsciiHead
     entered-here c p a r =
@@ -176,7 +176,7 @@ module _ (sw : Switches) (limits : Limits) (s : List ℕ) (tree : Tree) where
     value-known c fresh any l nothing fr g = tt
 
     fresh-known : (c : Config) (any : Bool) (key : Option Span) → Path sw limits 0 (before false) pre (b ∷ (x ++ z)) c
-        → Awaits sw limits (anyOf (c .stack)) c → Ready (c .mode) → FramesKnown (c .stack) → StepKnown (freshValue limits c any key t)
+        → Awaits sw limits (anyOf (c .stack)) c → MayCome (c .mode) → FramesKnown (c .stack) → StepKnown (freshValue limits c any key t)
     unfolding freshValue
     fresh-known c any key p a r fr = value-known c true any (label (t .start) key none) (begins (spanOf t) (t .form)) fr (entered-here c p a r)
 
@@ -199,7 +199,7 @@ module _ (sw : Switches) (limits : Limits) (s : List ℕ) (tree : Tree) where
 
     slot-known : (S : List Frame) (slot : Slot) (n : ℕ) → Path sw limits 0 (before false) pre (b ∷ (x ++ z)) (config S (inside slot) n) → FramesKnown S
         → StepKnown (slotStep sw limits (config S (inside slot) n) t slot S)
-    unfolding slotStep StepKnown Inv ModeKnown anyOf Ready
+    unfolding slotStep StepKnown Inv ModeKnown anyOf MayCome
     slot-known [] slot n p fr = tt
     slot-known (f ∷ fs) first n p fr =
         let c : Config = config (f ∷ fs) (inside first) n in
@@ -214,7 +214,7 @@ module _ (sw : Switches) (limits : Limits) (s : List ℕ) (tree : Tree) where
 
     mode-known : (S : List Frame) (m : Mode) (n : ℕ) → Path sw limits 0 (before false) pre (b ∷ (x ++ z)) (config S m n) → FramesKnown S → ModeKnown S m
         → StepKnown (modeStep sw limits (config S m n) t m)
-    unfolding modeStep StepKnown Inv ModeKnown Ready KnownBelow headOf withStop stopAt
+    unfolding modeStep StepKnown Inv ModeKnown MayCome KnownBelow headOf withStop stopAt
     mode-known S (value any key) n p fr k =
         fresh-known (config S (value any key) n) any key p
         (subst (λ (y : Bool). Awaits sw limits y (config S (value any key) n)) k (value-awaits sw limits S any key n)) tt fr

@@ -19,11 +19,11 @@ use Rattle.reader.specs.declared.tree.Limits.{Limits}
 use Rattle.reader.specs.Syntax.{Label, label, Frame, Slot, first, lone, after, more, Mode, value, named, inner, close, inside, colon, done, Config, Step, go, refuse, Begins, container, scalar, identifier, nothing, spanOf, isMark, closer, isObject, keyOf, begins, headBy, stopAt, withStop, finished, ended, goTo, refuseIf, isComma, emptyByComma, keyStep, closeOr, counted, valueStep, freshValue, childStep, slotStep, modeStep, step, Outcome, taken, refused, atEnd, afterStep, run, before}
 use Rattle.reader.specs.Reading.{outcome, maxText}
 
-abbrev pub startOf : Tree → ℕ
-startOf t = headOf t .value .start
+abbrev pub valueStart : Tree → ℕ
+valueStart t = headOf t .value .start
 
-abbrev pub stopOf : Tree → ℕ
-stopOf t = headOf t .value .stop
+abbrev pub valueStop : Tree → ℕ
+valueStop t = headOf t .value .stop
 
 unfoldable mutual
   -- spans run forwards, and children lie inside their parent
@@ -34,19 +34,19 @@ unfoldable mutual
   -- and all of them from a to b
   pub NestIn : (a b : ℕ) → Forest → Type 0
   NestIn a b nil = Unit {0}
-  NestIn a b (cons t f) = (a ≤ startOf t) × (stopOf t ≤ b) × Nest t × NestIn a b f
+  NestIn a b (cons t f) = (a ≤ valueStart t) × (valueStop t ≤ b) × Nest t × NestIn a b f
 
 in-later : (a b c : ℕ) (f : Forest) → b ≤ c → NestIn a b f → NestIn a c f
 unfolding Nest
 in-later a b c nil l n = tt
 in-later a b c (cons t f) l n = (n .0, le-trans (n .1) l, n .2, in-later a b c f l (n .3))
 
-in-snoc : (a b : ℕ) (f : Forest) (t : Tree) → NestIn a b f → a ≤ startOf t → stopOf t ≤ b → Nest t → NestIn a b (snoc f t)
+in-snoc : (a b : ℕ) (f : Forest) (t : Tree) → NestIn a b f → a ≤ valueStart t → valueStop t ≤ b → Nest t → NestIn a b (snoc f t)
 unfolding Nest snoc
 in-snoc a b nil t n h k m = (h, k, m, tt)
 in-snoc a b (cons u f) t n h k m = (n .0, n .1, n .2, in-snoc a b f t (n .3) h k m)
 
-pub nest-forwards : (t : Tree) → Nest t → startOf t ≤ stopOf t
+pub nest-forwards : (t : Tree) → Nest t → valueStart t ≤ valueStop t
 unfolding Nest headOf
 nest-forwards (leaf h s) n = n
 nest-forwards (branch h k f) n = n .0
@@ -77,7 +77,7 @@ LabelIn : (n : ℕ) → List Frame → Label → Type 0
 LabelIn n fs l = (topStart fs ≤ l .start) × (l .start ≤ n)
 
 TreeIn : (n : ℕ) → List Frame → Tree → Type 0
-TreeIn n fs t = (topStart fs ≤ startOf t) × (stopOf t ≤ n) × Nest t
+TreeIn n fs t = (topStart fs ≤ valueStart t) × (valueStop t ≤ n) × Nest t
 
 ModeNest : (n : ℕ) → List Frame → Mode → Type 0
 ModeNest n fs (value any key) = Unit {0}
@@ -201,7 +201,7 @@ module _ (limits : Limits) (t : Token) (at : ℕ) (after-at : at ≤ t .start) (
 
 -- a taken tree nests, and ends by n
 unfoldable pub OutcomeNests : (n : ℕ) → Outcome → Type 0
-OutcomeNests n (taken tree) = Nest tree × (stopOf tree ≤ n)
+OutcomeNests n (taken tree) = Nest tree × (valueStop tree ≤ n)
 OutcomeNests n (refused number place) = Unit {0}
 
 at-end : (n at place : ℕ) (fs : List Frame) (m : Mode) → at ≤ n → ModeNest at fs m → OutcomeNests n (atEnd place m)

@@ -11,7 +11,7 @@ use Rattle.reader.specs.Tree.{Tree, leaf, branch, Forest, nil, cons, hea
 use Rattle.reader.specs.Syntax.{Outcome, taken, refused}
 use Rattle.reader.specs.Reading.{reading, limitsOf, nodeCount, tableOf, wordOf}
 use Rattle.reader.proofs.TableLaws.{AllSpans, AllSpansIn, table-span}
-use Rattle.reader.proofs.NestLaws.{stopOf, Nest, NestIn, OutcomeNests, outcome-nests}
+use Rattle.reader.proofs.NestLaws.{valueStop, Nest, NestIn, OutcomeNests, outcome-nests}
 
 -- a span that ends by n
 abbrev Ends : (n : ℕ) → Bool → (start stop : ℕ) → Type 0
@@ -21,7 +21,7 @@ Ends n any start stop = (start ≤ stop) × (stop ≤ n)
 mutual
   unfolding Nest AllSpans headOf
 
-  nest-ends : (n : ℕ) (t : Tree) → Nest t → stopOf t ≤ n → AllSpans (Ends n) true t
+  nest-ends : (n : ℕ) (t : Tree) → Nest t → valueStop t ≤ n → AllSpans (Ends n) true t
   nest-ends n (leaf h s) m l = (m, l)
   nest-ends n (branch h k f) m l = ((m .0, l), nestIn-ends n (h .value .start) (h .value .stop) f (m .1) l)
 

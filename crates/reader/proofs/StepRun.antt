@@ -240,17 +240,17 @@ module _ (sw : Switches) (s : List ℕ) (from want : ℕ) (h : from ≤ length s
           record { ran = λ limits c w. ahead-refuses sw s from f (q ∙ ap H.Refused x) limits c (w .ends) }
 
 -- this mark comes next, and then this token
-pub record Past (sw : Switches) (s : List ℕ) (from want : ℕ) (t : CT.Token) : Type 0 where
+pub record PastMark (sw : Switches) (s : List ℕ) (from want : ℕ) (t : CT.Token) : Type 0 where
   pub place : ℕ
   pub mark : Marked sw s from want place
   pub token : Peeked sw s place (t .kind) (t .span .start) (t .span .stop)
 
 module _ (sw : Switches) (s : List ℕ) (from want : ℕ) (h : from ≤ length s) where
-  pub past-token : (t : CT.Token) → aheadAfter sw s from want ≡ H.Token t → Past sw s from want t
+  pub past-token : (t : CT.Token) → aheadAfter sw s from want ≡ H.Token t → PastMark sw s from want t
   unfolding pastMark
   past-token t e = on (onlyAt sw s from want) refl e
     where
-      on : (o : Only) → onlyAt sw s from want ≡ o → pastMark sw s o ≡ H.Token t → Past sw s from want t
+      on : (o : Only) → onlyAt sw s from want ≡ o → pastMark sw s o ≡ H.Token t → PastMark sw s from want t
       on (O.At place) q r =
           let m = only-at sw s from want h place q in
           record { place = place; mark = m; token = ahead-token sw s place t (m .inside) r }

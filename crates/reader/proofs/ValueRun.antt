@@ -32,7 +32,7 @@ use Rattle.reader.specs.Internal.Tokens.{formAt, tokenAt, LeafIs, BeginI
 use Rattle.reader.specs.Internal.Ahead.{aheadAfter}
 use Rattle.reader.specs.Internal.Values.{spanAt, labelOf, SpansApart, namedLabel, namedDue, rowWords, rowOf, runFrom, nodesAt, opened, Ready, Placed, isFull, leafProgress, leafTable, ValueRead, ValueRefused, ProgressIs, openedBy, ReadAs}
 use Rattle.reader.proofs.StopLaws.{stops-size, stops-key, stops-start, stops-stop}
-use Rattle.reader.proofs.StepRun.{Peeked, Marked, Wants, NotMarked, Past, peek-run, mark-go, not-mark, mode-free, past-refuses}
+use Rattle.reader.proofs.StepRun.{Peeked, Marked, Wants, NotMarked, PastMark, peek-run, mark-go, not-mark, mode-free, past-refuses}
 use Rattle.reader.proofs.ItemRun.{span-some}
 use Rattle.text.proofs.ListLaws.{getD-before-sets}
 use Rattle.reader.proofs.RowLaws.{leaf-row, stop-row}
@@ -206,7 +206,7 @@ module _ (sw : Switches) (limits : Limits) (s : List ℕ) (start stop : ℕ) (fr
               ∙ past-refuses sw s stop 40 i f q limits (config stack (named any (labelOf r)) (suc n)) (config stack (inner any (labelOf r)) (suc n)) (named-wants stack) (named-goes stack) (λ place. refl);
         }
 
-    module _ (t : CT.Token) (q : Past sw s stop 40 t) where
+    module _ (t : CT.Token) (q : PastMark sw s stop 40 t) where
       name-open : (stack : List Frame) → opened sw limits s start stop fresh any (labelOf p) n identifier stack ≡ opened sw limits s (t .span .start) (t .span .stop) false any (labelOf r) n (beginsAt sw s (t .span)) stack
       name-open stack =
           name-run stack

@@ -334,7 +334,7 @@ pub record ReadAs (rules : Rules) (s : List ℕ) (due : Due) (span : CS.Span) (b
 -- ---- what comes late: a duplicate key is refused before all that stands after it
 
 -- the children so far, as the code knows them: in an object, their rows in the table from x to m
-pub record Known (sw : Switches) (s : List ℕ) (kind : Kind) (tab : List ℕ) (x m : ℕ) (ks : List (List ℕ)) : Type 0 where
+pub record KnownKeys (sw : Switches) (s : List ℕ) (kind : Kind) (tab : List ℕ) (x m : ℕ) (ks : List (List ℕ)) : Type 0 where
   pub siblings : isObject kind ≡ true → SiblingKeys sw s tab x m ks
 
 -- what a search for a container's duplicate keys is handed; no child is the root
@@ -349,16 +349,16 @@ pub record KeyIn (sw : Switches) (s : List ℕ) (kind : Kind) (key : CS.Span) : 
 
 -- the first duplicate key of a container's children
 pub record FirstDuplicate (sw : Switches) (s : List ℕ) (kind : Kind) (tab : List ℕ) (c : Children) (r : Duplicate) : Type 0 where
-  pub is : (ks : List (List ℕ)) → Known sw s kind tab (c .first) (c .next) ks → placeOf r ≡ duplicateIn kind tab (c .first) ks
+  pub is : (ks : List (List ℕ)) → KnownKeys sw s kind tab (c .first) (c .next) ks → placeOf r ≡ duplicateIn kind tab (c .first) ks
 
 -- the refusal f comes, unless a key of the children before it is a duplicate
 pub record RefusedLate (sw : Switches) (s : List ℕ) (kind : Kind) (tab : List ℕ) (c : Children) (f r : Refusal) : Type 0 where
-  pub is : (ks : List (List ℕ)) → Known sw s kind tab (c .first) (c .next) ks
+  pub is : (ks : List (List ℕ)) → KnownKeys sw s kind tab (c .first) (c .next) ks
       → refused (r .number) (r .place) ≡ unlessDuplicate (duplicateIn kind tab (c .first) ks) (refused (f .number) (f .place))
 
 -- the same after this key, or in its value; the key may itself be a duplicate
 pub record RefusedLateAfter (sw : Switches) (s : List ℕ) (kind : Kind) (tab : List ℕ) (c : Children) (key : CS.Span) (f r : Refusal) : Type 0 where
-  pub is : (ks : List (List ℕ)) → Known sw s kind tab (c .first) (c .next) ks → (w : List ℕ) → (isObject kind ≡ true → KeyAt sw s (key .start) (key .stop) w)
+  pub is : (ks : List (List ℕ)) → KnownKeys sw s kind tab (c .first) (c .next) ks → (w : List ℕ) → (isObject kind ≡ true → KeyAt sw s (key .start) (key .stop) w)
       → refused (r .number) (r .place)
       ≡ unlessDuplicate (duplicateIn kind tab (c .first) ks) (unlessDuplicate (keyDuplicate kind (key .start) ks w) (refused (f .number) (f .place)))
 

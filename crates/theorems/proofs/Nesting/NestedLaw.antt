@@ -10,7 +10,7 @@ use lib.ListN.{length}
 use Rattle.reader.specs.Tree.{Tree, leaf, branch, Forest, nil, cons, headOf, size, sizes}
 use Rattle.reader.specs.Syntax.{Outcome, taken, refused}
 use Rattle.reader.specs.Reading.{limitsOf, reading, nodeCount, tableOf, wordOf}
-use Rattle.reader.proofs.NestLaws.{startOf, stopOf, Nest, NestIn, nest-forwards, OutcomeNests, outcome-nests}
+use Rattle.reader.proofs.NestLaws.{valueStart, valueStop, Nest, NestIn, nest-forwards, OutcomeNests, outcome-nests}
 use Rattle.nodes.specs.Nodes.{childrenOf}
 use Rattle.nodes.specs.Stands.{Node}
 use Rattle.nodes.proofs.WordLaws.{word-span}
@@ -60,7 +60,7 @@ module _ (T : List ℕ) where
         first zero k g =
             let e : x ≡ x + 0 = omega arith in
             subst (InParent T) e
-            (in-parent parent x (startOf t) (stopOf t) (ahead-parent T parent x t f A) (word-span T x t (ahead-node T parent x t f A)) p (m .0) (nest-forwards t (m .2)) (m .1))
+            (in-parent parent x (valueStart t) (valueStop t) (ahead-parent T parent x t f A) (word-span T x t (ahead-node T parent x t f A)) p (m .0) (nest-forwards t (m .2)) (m .1))
         first (suc j) k g = g (suc j) (omega arith) k
 
 -- ---- the theorem

@@ -1,4 +1,4 @@
--- made by tools/proof.py from answers/values/+read_container+read_identifier+read_value (answers 11155aa1d519, proof 86aded319856): edit that file, not this one
+-- made by tools/proof.py from answers/values/+read_container+read_identifier+read_value (answers 9daccfe24152, proof 9639104d16d8): edit that file, not this one
 use borrow.Author.Needs.{needs}
 use native.Mathlib.Omega.{arith}
 use mathlib.Core.Path.{_≡_, sym, _∙_}
@@ -12,7 +12,7 @@ use Rattle.reader.specs.Syntax.{container}
 use Rattle.reader.specs.Internal.Values.{labelOf, opened, ChildAt}
 use Rattle.reader.proofs.StepRun.{past-token}
 use Rattle.reader.proofs.ItemRun.{mark-at, mark-refused}
-use Rattle.reader.proofs.BodyRun.{Within, read-is, value-refused, due-as, begins-as, value-is, last-is, item-refused, field-refused, fresh-read, fresh-refused, fresh-ready, body-value, body-last, body-keys, body-child-keys, body-item-refused, body-field-refused, body-child-refused, body-ended, opens, opens-node, opens-not, first-is, body-start}
+use Rattle.reader.proofs.BodyRun.{Within, read-is, value-refused, due-as, begins-as, value-is, last-is, item-refused, item-refused-after, fresh-read, fresh-refused, fresh-ready, body-value, body-last, body-keys, body-child-keys, body-item-refused, body-field-refused, body-child-refused, body-ended, may-open, open-node, open-refused, no-children-first, body-start}
 use Rattle.reader.proofs.ValueRun.{begun-as, leaf-read, nothing-refused, named-ready, name-twice, name-full, name-not, name-refused, name-shut-not, name-read}
 use Prim.Native.Nat.{ℕ, _<_}
 use borrow.Fn.Kinds.{In}
@@ -133,12 +133,12 @@ read-container-opening-refusal-requires t c κs = search needs
 read-container-returns : (t : ℕ) → read-container-lts.Need-returns (read-container-calls t) (read-container-at t) read-container.Post read-container-Inv-loop read-container-μ-loop
 read-container-returns t c =
     let the-args = c .before .before .before .before .args in
-    opens-not (the-args .rules) (the-args .text .now) (the-args .due) (the-args .bracket) (the-args .kind) _ (c .before .opening-refusal .ensures) (c .if1 .taken)
+    open-refused (the-args .rules) (the-args .text .now) (the-args .due) (the-args .bracket) (the-args .kind) _ (c .before .opening-refusal .ensures) (c .if1 .taken)
 
 read-container-add-no-children : (t : ℕ) → read-container-lts.Need-add-no-children (read-container-calls t) (read-container-at t) read-container.Post read-container-Inv-loop read-container-μ-loop
 read-container-add-no-children t c =
     let the-pre = c .before .before .before .before .before .before .pre in
-    let w = opens-node (opens (c .before .before .before .opening-refusal .ensures) (c .before .before .if1 .left)) (the-pre .1 .0) in omega (arith, the-pre .1 .0 .table .small)
+    let w = open-node (may-open (c .before .before .before .opening-refusal .ensures) (c .before .before .if1 .left)) (the-pre .1 .0) in omega (arith, the-pre .1 .0 .table .small)
 
 read-container-no-children-requires : (t : ℕ) → read-container-lts.Need-no-children-requires (read-container-calls t) (read-container-at t) read-container.Post read-container-Inv-loop read-container-μ-loop
 read-container-no-children-requires t c κs = search needs
@@ -152,7 +152,7 @@ read-container-loop-holds : (t : ℕ) → read-container-lts.Need-loop-holds (re
 read-container-loop-holds t c =
     let the-args = c .before .before .before .before .before .before .before .before .args in
     let the-pre = c .before .before .before .before .before .before .before .before .pre in
-    (nil, [], first-is (c .before .no-children .ensures), body-start (the-args .rules) (the-args .text .now) (the-args .due) (the-args .bracket) (the-args .kind) _ (c .before .no-children .ensures) (opens (c .before .before .before .before .before .opening-refusal .ensures) (c .before .before .before .before .if1 .left)) (the-pre .1 .0) (the-pre .1 .1), c .next-child .ensures)
+    (nil, [], no-children-first (c .before .no-children .ensures), body-start (the-args .rules) (the-args .text .now) (the-args .due) (the-args .bracket) (the-args .kind) _ (c .before .no-children .ensures) (may-open (c .before .before .before .before .before .opening-refusal .ensures) (c .before .before .before .before .if1 .left)) (the-pre .1 .0) (the-pre .1 .1), c .next-child .ensures)
 
 read-container-enum-known-item : (t : ℕ) → read-container-lts.Need-enum-known-item (read-container-calls t) (read-container-at t) read-container.Post read-container-Inv-loop read-container-μ-loop
 read-container-enum-known-item t c = search needs
@@ -176,7 +176,7 @@ read-container-enum-known-item-2 t c = search needs
 read-container-late-after-requires : (t : ℕ) → read-container-lts.Need-late-after-requires (read-container-calls t) (read-container-at t) read-container.Post read-container-Inv-loop read-container-μ-loop
 read-container-late-after-requires t c κs =
     let the-loop = c .before .before .before .before .loop in
-    (body-keys (the-loop .inv .2) (c .before .before .before .before .before .before .before .before .before .before .before .before .before .pre .1 .0 .table .small) (the-loop .inv .3), let F = field-refused (c .before .before .item2 .given .1) (the-loop .inv .4) in record { here = λ e. record { content = F .content; key = F .key } })
+    (body-keys (the-loop .inv .2) (c .before .before .before .before .before .before .before .before .before .before .before .before .before .pre .1 .0 .table .small) (the-loop .inv .3), let F = item-refused-after (c .before .before .item2 .given .1) (the-loop .inv .4) in record { here = λ e. record { content = F .content; key = F .key } })
 
 read-container-same-length-2 : (t : ℕ) → read-container-lts.Need-same-length-2 (read-container-calls t) (read-container-at t) read-container.Post read-container-Inv-loop read-container-μ-loop
 read-container-same-length-2 t c = c .before .before .before .before .before .loop .inv .3 .long
@@ -184,7 +184,7 @@ read-container-same-length-2 t c = c .before .before .before .before .before .lo
 read-container-returns-3 : (t : ℕ) → read-container-lts.Need-returns-3 (read-container-calls t) (read-container-at t) read-container.Post read-container-Inv-loop read-container-μ-loop
 read-container-returns-3 t c =
     let the-loop = c .before .before .before .before .before .loop in
-    record { is = body-field-refused (the-loop .inv .2) (the-loop .inv .3) (field-refused (c .before .before .before .item2 .given .1) (the-loop .inv .4)) (c .late-after .ensures) }
+    record { is = body-field-refused (the-loop .inv .2) (the-loop .inv .3) (item-refused-after (c .before .before .before .item2 .given .1) (the-loop .inv .4)) (c .late-after .ensures) }
 
 read-container-enum-known-item-3 : (t : ℕ) → read-container-lts.Need-enum-known-item-3 (read-container-calls t) (read-container-at t) read-container.Post read-container-Inv-loop read-container-μ-loop
 read-container-enum-known-item-3 t c = search needs
@@ -210,7 +210,7 @@ read-container-enum-known-item-4 : (t : ℕ) → read-container-lts.Need-enum-kn
 read-container-enum-known-item-4 t c = search needs
 
 read-container-child-due-requires : (t : ℕ) → read-container-lts.Need-child-due-requires (read-container-calls t) (read-container-at t) read-container.Post read-container-Inv-loop read-container-μ-loop
-read-container-child-due-requires t c κs = let o = opens {limits = c .before .before .before .before .before .before .before .before .before .before .before .before .args .rules .limits} {due = c .before .before .before .before .before .before .before .before .before .before .before .before .args .due} (c .before .before .before .before .before .before .before .before .before .opening-refusal .ensures) (c .before .before .before .before .before .before .before .before .if1 .left) in let w = opens-node o (c .before .before .before .before .before .before .before .before .before .before .before .before .pre .1 .0) in let I = value-is (c .before .item4 .given .1) (c .before .before .before .loop .inv .4) in
+read-container-child-due-requires t c κs = let o = may-open {limits = c .before .before .before .before .before .before .before .before .before .before .before .before .args .rules .limits} {due = c .before .before .before .before .before .before .before .before .before .before .before .before .args .due} (c .before .before .before .before .before .before .before .before .before .opening-refusal .ensures) (c .before .before .before .before .before .before .before .before .if1 .left) in let w = open-node o (c .before .before .before .before .before .before .before .before .before .before .before .before .pre .1 .0) in let I = value-is (c .before .item4 .given .1) (c .before .before .before .loop .inv .4) in
     ((omega (arith, o .shallow, c .before .before .before .before .before .before .before .before .before .before .before .before .good .0), omega (arith, c .before .before .before .before .before .before .before .before .before .before .before .before .pre .1 .0 .table .small)), (omega (arith, I .token .ordered, I .token .inside, c .before .before .before .before .before .before .before .before .before .before .before .before .pre .1 .1 .short), record { start-low = I .short .0; stop-low = I .short .1 }))
 
 read-container-read-value-requires : (t : ℕ) → read-container-lts.Need-read-value-requires (read-container-calls t) (read-container-at t) read-container.Post read-container-Inv-loop read-container-μ-loop
