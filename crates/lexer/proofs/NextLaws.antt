@@ -157,19 +157,19 @@ pub record Ahead (sw : Switches) (s : List ℕ) (at : ℕ) (k : TokenKind) (star
 -- an answer's parts
 token-same : (k l : TokenKind) (a b c d : ℕ) → tokenNext k a c ≡ tokenNext l b d → (k ≡ l) × (a ≡ b) × (c ≡ d)
 token-same k l a b c d p =
-    let q : answered k a c ≡ answered l b d = cc in
+    let q : token-of k a c ≡ token-of l b d = cc in
     (ap (λ (t : Token). t .kind) q, ap (λ (t : Token). t .span .start) q, ap (λ (t : Token). t .span .stop) q)
   where
-    answered : TokenKind → ℕ → ℕ → Token
-    answered k a c = record { kind = k; span = record { start = a; stop = c } }
+    token-of : TokenKind → ℕ → ℕ → Token
+    token-of k a c = record { kind = k; span = record { start = a; stop = c } }
 
 refused-same : (n m a b : ℕ) → refusedNext n a ≡ refusedNext m b → (n ≡ m) × (a ≡ b)
 refused-same n m a b p =
-    let q : answered n a ≡ answered m b = cc in
+    let q : refusal-of n a ≡ refusal-of m b = cc in
     (ap (λ (r : Refusal). r .number) q, ap (λ (r : Refusal). r .place) q)
   where
-    answered : ℕ → ℕ → Refusal
-    answered n a = record { number = n; place = a }
+    refusal-of : ℕ → ℕ → Refusal
+    refusal-of n a = record { number = n; place = a }
 
 module _ (sw : Switches) (s : List ℕ) (at : ℕ) where
   token-ahead : (n : ℕ) (ts : Tokens) (k : TokenKind) (start stop : ℕ) → n ≡ length s → tokensFrom sw s at ≡ ts → Within n at ts

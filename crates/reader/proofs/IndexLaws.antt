@@ -14,7 +14,7 @@ use Rattle.text.specs.Bytes.{sameBytes}
 use Rattle.text.proofs.SameLaws.{same-is, same-refl}
 use Rattle.reader.specs.Reading.{maxNodes}
 use Rattle.reader.specs.Syntax.{holds}
-use Rattle.reader.specs.Internal.Index.{isShort, prefixed, Route, Vacant, KeyNode, Entry, Reached, Indexed, Fresh}
+use Rattle.reader.specs.Internal.Index.{isShort, prefixed, Route, Vacant, KeyNode, Entry, Reached, Indexed, NewAt}
 use Rattle.reader.proofs.RouteLaws.{route-empty, route-before, route-owner, route-node, here, route-new, route-kept}
 
 -- ---- contents that are held
@@ -150,7 +150,7 @@ module _ (owner : ℕ → ℕ) (x cell : ℕ) where
 
 -- a key that is new, and short
 module _ {sw : Switches} {s tab links tests : List ℕ} {x : ℕ} {ks : List (List ℕ)} (X : Indexed sw s tab links tests x ks) (few : x < maxNodes) (w : List ℕ) (short : isShort w ≡ true)
-    (N : KeyNode sw s tab x w) {cell test : ℕ} (F : Fresh sw s tab links tests w cell test) where
+    (N : KeyNode sw s tab x w) {cell test : ℕ} (F : NewAt sw s tab links tests w cell test) where
   inside : cell < 2 * x
   inside = comes-before X (prefixed w) (F .at) cell (F .route)
 

@@ -13,7 +13,7 @@ use Rattle.reader.specs.declared.index.Lookup.the-variants as L
 use Rattle.reader.specs.Reading.{maxNodes, wordOf}
 use Rattle.reader.specs.Syntax.{holds}
 use Rattle.reader.specs.Internal.Values.{KeyAt, KeyHere, SiblingKeys, HaveKeys, FoundKey, DuplicateAt}
-use Rattle.reader.specs.Internal.Index.{keyBytes, isShort, prefixed, IsPrefixed, KeyWritten, cells, Vacant, Indexed, HasIndex, Fresh, LookupIs, LookedUp}
+use Rattle.reader.specs.Internal.Index.{keyBytes, isShort, prefixed, IsPrefixed, KeyWritten, cells, Vacant, Indexed, HasIndex, LookupIs, LookedUp}
 use Rattle.reader.proofs.DuplicateLaws.{Past, past-start, past-row, past-key, past-have-keys, past-on, past-hit, past-end}
 use Rattle.reader.proofs.PrefixLaws.{is-short, is-long}
 use Rattle.reader.proofs.IndexLaws.{index-start, index-later, index-long, comes-before, index-more}
@@ -107,14 +107,14 @@ module _ {sw : Switches} {s tab links tests : List ℕ} {first x m : ℕ} (G : G
           pub short-hit : {r : Lookup} → LookedUp sw s tab links tests (take n out) r → r ≡ L.Known → DuplicateAt sw s tab first m (D.At a)
           short-hit U t = hit (grown-key .content) (grown-key .key) (asked U t)
 
-          pub short-cell : {r : Lookup} {cell test : ℕ} → LookedUp sw s tab links tests (take n out) r → r ≡ L.Fresh cell test → cell < cells
+          pub short-cell : {r : Lookup} {cell test : ℕ} → LookedUp sw s tab links tests (take n out) r → r ≡ L.New cell test → cell < cells
           short-cell {r} {cell} {test} U t =
               let F = asked U t .1 in
               let b = comes-before (G .index) _ (F .at) cell (F .route) in
               let f = G .index .few in
               omega arith
 
-          pub short-on : {y : ℕ} {r : Lookup} {cell test : ℕ} → m ≤ maxNodes → y ≡ wordOf tab x 8 → LookedUp sw s tab links tests (take n out) r → r ≡ L.Fresh cell test
+          pub short-on : {y : ℕ} {r : Lookup} {cell test : ℕ} → m ≤ maxNodes → y ≡ wordOf tab x 8 → LookedUp sw s tab links tests (take n out) r → r ≡ L.New cell test
               → Grown sw s tab (set links cell x) (set tests x test) first y m
           short-on {y} {r} {cell} {test} few v U t =
               let N = grown-next v in

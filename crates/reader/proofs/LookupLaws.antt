@@ -13,7 +13,7 @@ use Rattle.reader.specs.declared.index.Lookup.the-variants as L
 use Rattle.reader.specs.Reading.{wordOf}
 use Rattle.reader.specs.Syntax.{holds}
 use Rattle.reader.specs.Internal.Values.{KeyHere}
-use Rattle.reader.specs.Internal.Index.{keyBytes, isShort, prefixed, IsPrefixed, KeyWritten, agreed, passes, Tells, TellsBy, Route, KeyNode, Indexed, HasIndex, HasKey, NodeWritten, Fresh, LookedUp}
+use Rattle.reader.specs.Internal.Index.{keyBytes, isShort, prefixed, IsPrefixed, KeyWritten, agreed, passes, Tells, TellsBy, Route, KeyNode, Indexed, HasIndex, HasKey, NodeWritten, NewAt, LookedUp}
 use Rattle.reader.proofs.PrefixLaws.{prefixed-same, prefixed-first, prefixed-length, agreed-within, agreed-differ}
 use Rattle.reader.proofs.RouteLaws.{positive, route-same}
 use Rattle.reader.proofs.IndexLaws.{comes-entry}
@@ -39,7 +39,7 @@ module _ {sw : Switches} {s tab links tests : List ℕ} {x : ℕ} {ks : List (Li
       by false b = refl
 
   -- it comes to no node
-  pub none-is : (test : ℕ) → isShort w ≡ true → r ≡ 0 → passes test (prefixed w) ≡ true → (holds ks w ≡ false) × Fresh sw s tab links tests w e test
+  pub none-is : (test : ℕ) → isShort w ≡ true → r ≡ 0 → passes test (prefixed w) ≡ true → (holds ks w ≡ false) × NewAt sw s tab links tests w e test
   none-is test short z p = (
     not-held short (λ K. let h = K .some in omega arith),
     record {
@@ -63,8 +63,8 @@ module _ {sw : Switches} {s tab links tests : List ℕ} {x : ℕ} {ks : List (Li
         let E = comes-entry X (prefixed w) r e R h in
         ap (holds ks) (prefixed-same w (E .content) (ap (agreed (prefixed w)) (sym (other-is (E .content) (E .node) (E .short))) ∙ a)) ∙ E .held
 
-    pub fresh-is : (test : ℕ) → isShort w ≡ true → Tells test (prefixed w) (take n out) → (holds ks w ≡ false) × Fresh sw s tab links tests w e test
-    fresh-is test short T = (
+    pub new-is : (test : ℕ) → isShort w ≡ true → Tells test (prefixed w) (take n out) → (holds ks w ≡ false) × NewAt sw s tab links tests w e test
+    new-is test short T = (
       not-held short (λ K. true≢false (sym (T .own) ∙ ap (passes test) (sym (other-is w K short)) ∙ T .apart)),
       record {
         at = r;
@@ -98,7 +98,7 @@ route-by : {links tests bytes : List ℕ} {r e : ℕ} → Route links tests byte
 route-by {links} {tests} {bytes} {r} {e} R w q = subst (λ (l : List ℕ). Route links tests l 0 0 r e) q R
 
 module _ {sw : Switches} {s tab links tests : List ℕ} {bytes : List ℕ} {r e : ℕ} (R : Route links tests bytes 0 0 r e) where
-  pub look-none : {own test : ℕ} → r ≡ 0 → own ≡ getD bytes 0 0 → TellsBy 0 own 0 test → LookedUp sw s tab links tests bytes (L.Fresh e test)
+  pub look-none : {own test : ℕ} → r ≡ 0 → own ≡ getD bytes 0 0 → TellsBy 0 own 0 test → LookedUp sw s tab links tests bytes (L.New e test)
   look-none {own} {test} z p T =
       record {
         is =
@@ -124,7 +124,7 @@ module _ {sw : Switches} {s tab links tests : List ℕ} {bytes : List ℕ} {r e 
         }
 
     pub look-fresh : {i own other test : ℕ} → i ≡ agreed bytes (take n out) → (i ≡ length bytes → ⊥) → own ≡ getD bytes i 0 → other ≡ getD (take n out) i 0 → TellsBy i own other test
-        → LookedUp sw s tab links tests bytes (L.Fresh e test)
+        → LookedUp sw s tab links tests bytes (L.New e test)
     look-fresh {i} {own} {other} {test} p d a b T =
         let k = agreed-within bytes (take n out) in
         let h : agreed bytes (take n out) < length bytes = below-is (agreed bytes (take n out)) (length bytes) k (λ q. d (p ∙ q)) in
@@ -134,5 +134,5 @@ module _ {sw : Switches} {s tab links tests : List ℕ} {bytes : List ℕ} {r e 
         record {
           is =
               λ x ks X w short q.
-              fresh-is X w r e (route-by R w q) out n N (positive r some) test short (subst (λ (l : List ℕ). Tells test l (take n out)) q t);
+              new-is X w r e (route-by R w q) out n N (positive r some) test short (subst (λ (l : List ℕ). Tells test l (take n out)) q t);
         }

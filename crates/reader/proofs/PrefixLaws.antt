@@ -5,13 +5,12 @@ use Prim.Native.Nat.{ℕ, suc, _+_, _-_, _*_, _/_, _%_, _^_, _<_, _≤_}
 use native.Mathlib.Omega.{arith}
 use native.Mathlib.Numerals.{add-one}
 use mathlib.Core.Bool.{Bool, true, false, cond}
-use mathlib.Core.Option.{Option, some}
 use mathlib.Core.List.{List, [], _∷_}
 use lib.Dec.{eqb}
 use lib.ListN.{length, getD, set, take, drop, drop-of-length-le}
 use lib.Seq.{drop-cons, drop-drop, getD-drop}
 use borrow.Author.Tests.{eqb-true, eqb-false, eq-eqb, ne-eqb, leb-true, leb-false}
-use Rattle.literals.specs.InternalContent.{Copied}
+use Rattle.literals.specs.InternalContent.{CopiedAs}
 use Rattle.reader.specs.Internal.Index.{keyBytes, isShort, prefixed, ContentIn, agreed, bitAt, missOf, DiffersIn, TellsBy}
 
 -- ---- where two lists differ
@@ -181,10 +180,10 @@ behind (x ∷ y ∷ l) w r h e d =
     let k : take (length w) l ≡ w = sym (ap (λ (n : ℕ). drop 2 (take n (x ∷ y ∷ l))) u) ∙ d in
     (λ i. take (u i) ((v i / 256 + 1) ∷ v i % 256 ∷ l)) ∙ ap (λ (t : List ℕ). (length w / 256 + 1) ∷ length w % 256 ∷ t) k
 
-module _ {o : Option (List ℕ)} {out : List ℕ} {r : ℕ} (C : Copied o 2 out r) (l : length out ≡ keyBytes) (w : List ℕ) (e : o ≡ some w) where
+module _ {w out : List ℕ} {r : ℕ} (C : CopiedAs w 2 out r) (l : length out ≡ keyBytes) where
   pub key-short : r ≤ length out → ContentIn w (set (set out 0 ((r - 2) / 256 + 1)) 1 ((r - 2) % 256)) r
   key-short h =
-      let k = C .is w e .fits h in
+      let k = C .fits h in
       record {
         short = λ _. (omega arith, behind out w r (omega arith) (k .0) (k .1));
         long = λ q. let u = leb-false (length w + 2) keyBytes q in let v = k .0 in omega arith;
@@ -192,7 +191,7 @@ module _ {o : Option (List ℕ)} {out : List ℕ} {r : ℕ} (C : Copied o 2 out 
 
   pub key-long : length out < r → ContentIn w out r
   key-long h =
-      let k = C .is w e .long h in
+      let k = C .long h in
       record {
         short = λ q. let u = leb-true (length w + 2) keyBytes q in let z : ⊥ = omega arith in absurd z;
         long = λ _. omega arith;

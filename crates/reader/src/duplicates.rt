@@ -3,14 +3,13 @@ ghost use Prim.Native.Nat.{_≤_};
 ghost use lib.ListN.{length};
 ghost use Rattle.reader.specs.Internal.Values.{HaveKeys, KeyHere, DuplicateAt};
 ghost use Rattle.reader.specs.Internal.Few.{Walked, KeyKept, HaveKept, IsKept};
+use super::keys::copy_key;
 use super::keys::find_key;
 use super::rows::KEY_START;
 use super::rows::KEY_STOP;
 use super::rows::NEXT;
 use super::rows::word_of;
 use super::tree::Children;
-use lexer::token::part_of;
-use literals::copy::copy_content;
 use text::bytes::same_bytes;
 use text::span::Span;
 use text::switches::Switches;
@@ -33,14 +32,7 @@ fn keep_key(sw: Switches, text: &[u8], key: Span, out: &mut [u8], at: usize) -> 
     requires { ⌜ at ≤ length (now out) ⌝ }
     ensures { λ r. ⌜ KeyKept sw (now (text .entry)) (key .start) (key .stop) at (now (out .entry)) (now (out .exit)) r ⌝ }
 {
-    let start = key.start;
-    let stop = key.stop;
-    let token = &text[start..stop];
-    let part = part_of(sw, token);
-    let body = part.body;
-    let from = part.span.start;
-    let to = part.span.stop;
-    let size = copy_content(sw, body, &token[from..to], &mut out[at..], 0);
+    let size = copy_key(sw, text, key, &mut out[at..], 0);
     if out.len() - at < size {
         return out.len() + 1;
     }

@@ -26,6 +26,7 @@ ghost use Rattle.reader.specs.Internal.Index.{
   LookedUp,
 };
 use super::duplicates::Duplicate;
+use super::keys::copy_key;
 use super::keys::find_key;
 use super::rows::KEY_START;
 use super::rows::KEY_STOP;
@@ -33,8 +34,6 @@ use super::rows::NEXT;
 use super::rows::word_of;
 use super::tree::Children;
 use super::tree::MAX_NODES;
-use lexer::token::part_of;
-use literals::copy::copy_content;
 use text::bytes::byte_at;
 use text::span::Span;
 use text::switches::Switches;
@@ -58,7 +57,7 @@ pub struct Leaf {
 // A content that is in the index; or one that is not, with the cell that it belongs in and the test to set.
 pub enum Lookup {
     Known,
-    Fresh(usize, u16),
+    New(usize, u16),
 }
 
 // ---- contents
@@ -70,14 +69,7 @@ fn write_key(sw: Switches, text: &[u8], key: Span, out: &mut [u8]) -> usize
     requires { ⌜ length (now out) ≡ keyBytes ⌝ }
     ensures { λ r. ⌜ KeyWritten sw (now (text .entry)) (key .start) (key .stop) (now (out .exit)) r ⌝ }
 {
-    let start = key.start;
-    let stop = key.stop;
-    let token = &text[start..stop];
-    let part = part_of(sw, token);
-    let body = part.body;
-    let from = part.span.start;
-    let to = part.span.stop;
-    let end = copy_content(sw, body, &token[from..to], out, CONTENT);
+    let end = copy_key(sw, text, key, out, CONTENT);
     if out.len() < end {
         return end;
     }
@@ -228,7 +220,7 @@ fn look_up(
 {
     let leaf = descend(links, tests, key);
     if leaf.node == 0 {
-        return Lookup::Fresh(leaf.cell, test_of(0, byte_at(key, 0), 0));
+        return Lookup::New(leaf.cell, test_of(0, byte_at(key, 0), 0));
     }
     let n = write_node_key(sw, text, table, leaf.node, other);
     let i = agreement(key, &other[..n]);
@@ -236,7 +228,7 @@ fn look_up(
         return Lookup::Known;
     }
     let test = test_of(i, byte_at(key, i), byte_at(&other[..n], i));
-    Lookup::Fresh(leaf.cell, test)
+    Lookup::New(leaf.cell, test)
 }
 
 // The first key of the children that stands among those before it, by an index that is empty so far.
@@ -278,7 +270,7 @@ fn index_keys(
         } else {
             match look_up(sw, text, table, links, tests, &own[..n], &mut other) {
                 Lookup::Known => return Duplicate::At(place),
-                Lookup::Fresh(cell, test) => {
+                Lookup::New(cell, test) => {
                     links[cell] = child as u16;
                     tests[child] = test;
                 }

@@ -159,7 +159,7 @@ pub record NodeWritten (sw : Switches) (s tab : List ℕ) (y : ℕ) (out : List 
   pub is : (w : List ℕ) → KeyNode sw s tab y w → ContentIn w out r
 
 -- a short content that is new: where it belongs in the tree, and a test that it passes and the only key that it could be confused with does not
-pub record Fresh (sw : Switches) (s tab links tests : List ℕ) (w : List ℕ) (cell test : ℕ) : Type 0 where
+pub record NewAt (sw : Switches) (s tab links tests : List ℕ) (w : List ℕ) (cell test : ℕ) : Type 0 where
   pub at : ℕ
   pub route : Route links tests (prefixed w) 0 0 at cell
   pub own : passes test (prefixed w) ≡ true
@@ -168,7 +168,7 @@ pub record Fresh (sw : Switches) (s tab links tests : List ℕ) (w : List ℕ) (
 -- whether a short content is among ks, and if not, where it belongs
 abbrev pub LookupIs : Switches → (s tab links tests : List ℕ) (ks : List (List ℕ)) (w : List ℕ) → Lookup → Type 0
 LookupIs sw s tab links tests ks w L.Known = holds ks w ≡ true
-LookupIs sw s tab links tests ks w (L.Fresh cell test) = (holds ks w ≡ false) × Fresh sw s tab links tests w cell test
+LookupIs sw s tab links tests ks w (L.New cell test) = (holds ks w ≡ false) × NewAt sw s tab links tests w cell test
 
 pub record LookedUp (sw : Switches) (s tab links tests : List ℕ) (bytes : List ℕ) (r : Lookup) : Type 0 where
   pub is : (x : ℕ) (ks : List (List ℕ)) → Indexed sw s tab links tests x ks → (w : List ℕ) → isShort w ≡ true → bytes ≡ prefixed w → LookupIs sw s tab links tests ks w r

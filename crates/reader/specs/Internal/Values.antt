@@ -13,6 +13,7 @@ use Rattle.text.specs.declared.switches.Switches.{Switches}
 use Rattle.text.specs.declared.refusal.Refusal.{Refusal}
 use Rattle.text.specs.Refusal.{refusal}
 use Rattle.lexer.specs.declared.item.TokenKind.{TokenKind}
+use Rattle.literals.specs.InternalContent.{CopiedAs}
 use Rattle.lexer.specs.Token.{tokensFrom, tokenContent}
 use Rattle.reader.specs.declared.tree.Kind.{Kind}
 use Rattle.reader.specs.declared.tree.Kind.the-variants.{Object}
@@ -154,6 +155,10 @@ pub record HaveKeys (sw : Switches) (s tab : List ℕ) (x m : ℕ) : Type 0 wher
 pub record KeyHere (sw : Switches) (s : List ℕ) (a e : ℕ) : Type 0 where
   pub content : List ℕ
   pub key : KeyAt sw s a e content
+
+-- the content of the key from a to e was written from `at` on, and ends at r
+pub record KeyCopied (sw : Switches) (s : List ℕ) (a e at : ℕ) (out : List ℕ) (r : ℕ) : Type 0 where
+  pub is : (w : List ℕ) → KeyAt sw s a e w → CopiedAs w at out r
 
 -- whether the key from a to e is among those of the nodes from x to m
 pub record FoundKey (sw : Switches) (s tab : List ℕ) (x m a e : ℕ) (r : Bool) : Type 0 where
