@@ -6,7 +6,7 @@ ghost use Rattle.io.specs.Counts.{IsPrefixLen};
 pub const TEXT_ROOM: usize = 65537;
 
 // How many bytes came, and whether they are all: false after a read that failed.
-#[derive(Drop)]
+#[derive(Clone, Copy)]
 pub struct Filled {
     pub is_read: bool,
     pub count: usize,

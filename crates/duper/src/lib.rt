@@ -1,4 +1,6 @@
 // The calls for C and Rust: each answers one 64-bit number. A slice crosses as its pointer and its count of elements.
+#![tactic(auto)]
+
 ghost use Rattle.std.specs.Prelude.{◌≡◌, [], ◌∷◌, ◌≤◌, length};
 ghost use Rattle.text.specs.Switches.{present_edition};
 ghost use Rattle.text.specs.Utf8.{utf8, whole_front, plain_eights};

@@ -47,14 +47,14 @@ pub(crate) fn put_entry(journal: &mut [u8], at: usize, old: &[u8], start: usize,
 }
 
 // What the trailer of a good entry says: its replacement stands in the text in the span, and the entry is `size` bytes long.
-#[derive(Drop)]
+#[derive(Clone, Copy)]
 pub(crate) struct Trailer {
     pub span: Span,
     pub size: usize,
 }
 
 // The last entry of a journal in use, against the text in use: there is none, or it is bad, or it is good.
-#[derive(Drop)]
+#[derive(Clone, Copy)]
 pub(crate) enum Entry {
     Nothing,
     Bad,

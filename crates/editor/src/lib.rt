@@ -1,4 +1,6 @@
 // The editor: correction of one value, and undo, on lent buffers.
+#![tactic(auto)]
+
 pub mod buffers;
 pub mod change;
 pub mod edit;

@@ -11,7 +11,7 @@ use text::span::{MAX_TEXT, Span};
 use text::switches::Switches;
 
 // What is known once the present text has been read: the edition's switches, the lengths in use, and the node count.
-#[derive(Drop)]
+#[derive(Clone, Copy)]
 pub(crate) struct Present {
     pub sw: Switches,
     pub used: InUse,
@@ -19,7 +19,7 @@ pub(crate) struct Present {
 }
 
 // A change that is asked for: the bytes of the span are to be replaced, and the journal then has so many bytes in use.
-#[derive(Drop)]
+#[derive(Clone, Copy)]
 pub(crate) struct Plan {
     pub span: Span,
     pub journal: usize,

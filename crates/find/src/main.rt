@@ -4,6 +4,8 @@
 //
 // The first argument names the text's file, and the second is the path. What fails outside the text, as a file that can't be
 // read, is said on standard error, and nothing is printed then.
+#![tactic(auto)]
+
 mod answer;
 
 use console::input;

@@ -6,7 +6,7 @@ ghost use Rattle.lexer.specs.Internal.{closing_read, is_closed, block_read, is_s
 
 // After the opening quote. Inside(n), Escaped(n), Hashes(j, n): n bytes and no end yet; Escaped after a backslash that takes the
 // next byte with it; Hashes after a quote and j hashes. Closed(n): the string ended with the n-th byte.
-#[derive(Drop)]
+#[derive(Clone, Copy)]
 pub enum Closing {
     Inside(usize),
     Escaped(usize),
@@ -15,7 +15,7 @@ pub enum Closing {
 }
 
 // After `/*`. Inside(n), Starred(n): n bytes and no end yet, the last of them no star, or a star. Closed(n): the n-th byte ended it.
-#[derive(Drop)]
+#[derive(Clone, Copy)]
 pub enum Block {
     Inside(usize),
     Starred(usize),

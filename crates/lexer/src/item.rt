@@ -23,7 +23,7 @@ use text::{bytes, refusal};
 
 // A token's form with its value: a bracket or mark with its byte, a word, a text or bytes with the length of its content, an
 // integer, a decimal (-1)^minus * m * 10^p.
-#[derive(Drop)]
+#[derive(Clone, Copy)]
 pub enum TokenKind {
     Mark(u8),
     Word,
@@ -34,7 +34,7 @@ pub enum TokenKind {
 }
 
 // A token: what it is, and where it stands.
-#[derive(Drop)]
+#[derive(Clone, Copy)]
 pub struct Token {
     pub kind: TokenKind,
     pub span: Span,
@@ -42,7 +42,7 @@ pub struct Token {
 
 // What stands at a place: a space or a comment with its end, a token with its end, what is refused there by its number (3 to 6);
 // nothing, past the end.
-#[derive(Drop)]
+#[derive(Clone, Copy)]
 pub enum Found {
     Gap(usize),
     Token(TokenKind, usize),
@@ -51,7 +51,7 @@ pub enum Found {
 }
 
 // The next token from a place, the text's end, or what is refused before any token.
-#[derive(Drop)]
+#[derive(Clone, Copy)]
 pub enum Next {
     Token(Token),
     End(usize),

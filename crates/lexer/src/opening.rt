@@ -10,7 +10,7 @@ use text::switches::Switches;
 
 // How a string opens: as a text or as bytes, and how its body is decoded; the bytes before its body, with the opening quote; the
 // hashes before that quote, which also stand after the closing one.
-#[derive(Drop)]
+#[derive(Clone, Copy)]
 pub struct StringHead {
     pub is_text: bool,
     pub body: Body,
@@ -19,7 +19,7 @@ pub struct StringHead {
 }
 
 // What opens at a place. Broken: `r` or `br` and hashes with no quote behind them, which is malformed. Nothing: no string.
-#[derive(Drop)]
+#[derive(Clone, Copy)]
 pub enum Opening {
     String(StringHead),
     Broken,

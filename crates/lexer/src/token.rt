@@ -14,7 +14,7 @@ use text::span::Span;
 use text::switches::Switches;
 
 // Where a string or key holds its content, and how it is decoded.
-#[derive(Drop)]
+#[derive(Clone, Copy)]
 pub struct Part {
     pub is_text: bool,
     pub body: Body,

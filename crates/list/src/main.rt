@@ -3,6 +3,8 @@
 //
 // The text comes from the file that the one argument names, or from standard input where there is no argument. What fails
 // outside the text, as a file that can't be read, is said on standard error, and nothing is listed then.
+#![tactic(auto)]
+
 mod listing;
 
 ghost use Rattle.io.specs.Counts.{IsPrefixLen};

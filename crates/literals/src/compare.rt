@@ -8,7 +8,7 @@ use text::few::Few;
 use text::switches::Switches;
 
 // A place in a body, the decoder there, and the bytes of content before it that have not been asked for yet.
-#[derive(Drop)]
+#[derive(Clone, Copy)]
 pub struct Cursor {
     pub place: usize,
     pub state: Decoder,
@@ -16,7 +16,7 @@ pub struct Cursor {
 }
 
 // The next byte of a content and the cursor after it, or that the content is at its end, or that there is none.
-#[derive(Drop)]
+#[derive(Clone, Copy)]
 pub enum Piece {
     Byte(u8, Cursor),
     End,

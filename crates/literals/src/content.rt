@@ -11,14 +11,14 @@ use text::switches::Switches;
 use text::utf8::{Utf8, is_whole};
 
 // How long a body's content is, or that it has none.
-#[derive(Drop)]
+#[derive(Clone, Copy)]
 pub enum Measure {
     Length(usize),
     Refused,
 }
 
 // What writing a content to an output did: the bytes written, or nothing, for want of a content or of room.
-#[derive(Drop)]
+#[derive(Clone, Copy)]
 pub enum Written {
     Bytes(usize),
     Refused,

@@ -49,7 +49,7 @@ const LAST_SCALAR: u32 = 0x10ffff;
 const NO_SEXTET: u8 = 64;
 
 // What stands between the quotes, or a word: how its bytes are to be decoded.
-#[derive(Drop)]
+#[derive(Clone, Copy)]
 pub enum Body {
     Quoted,
     Raw,
@@ -61,7 +61,7 @@ pub enum Body {
 // `\u`, `\U`, with the value so far and `left` digits due after the next one. Verbatim: in a raw body. Letters: in a word.
 // Digits, Pads: in a base64 body, the count of digits being `phase` modulo 4 and `rest` the bits that no byte has been given of yet;
 // after a pad, when `left` more may follow. Bad: no content.
-#[derive(Drop)]
+#[derive(Clone, Copy)]
 pub enum Decoder {
     Plain,
     Escape,
@@ -74,7 +74,7 @@ pub enum Decoder {
 }
 
 // The decoder after a byte, and the bytes of content that are known with it.
-#[derive(Drop)]
+#[derive(Clone, Copy)]
 pub struct Decoded {
     pub state: Decoder,
     pub out: Few,

@@ -20,7 +20,7 @@ const CAP: u64 = 10000000000000000000;
 // m of all digits so far, the count of fraction digits (places), the exponent's minus and its value. Zero is a 0 as the whole
 // integer part; Dot stands after the point, ExpLetter after the `e` or `E`; Prefix after `0x`, `0o` or `0b`, and Based after a digit
 // there.
-#[derive(Drop)]
+#[derive(Clone, Copy)]
 pub enum Number {
     Start,
     Bad,
@@ -92,7 +92,7 @@ pub enum Number {
 }
 
 // What a number token means: an integer; a decimal, (-1)^minus * m * 10^p; or refusal 3 or 5.
-#[derive(Drop)]
+#[derive(Clone, Copy)]
 pub enum Meaning {
     Integer(i64),
     Decimal { minus: bool, m: u64, p: i64 },

@@ -4,7 +4,7 @@ ghost use Rattle.text.specs.Bytes.{is_capital, is_small, is_letter_or_digit, is_
 ghost use Rattle.literals.specs.Word.{shape_step, is_good, has_shape};
 
 // Lead: after a first `_`. Good: after a letter or digit. Joined: after a later joiner.
-#[derive(Drop)]
+#[derive(Clone, Copy)]
 pub enum Shape {
     Start,
     Lead,

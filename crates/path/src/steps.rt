@@ -5,7 +5,7 @@ ghost use Rattle.path.specs.Path.{index};
 ghost use Rattle.path.specs.Internal.{is_step_byte, below, index_answer};
 
 // The index that a step says; or that it says none, or one that no child has.
-#[derive(Drop)]
+#[derive(Clone, Copy)]
 pub(crate) enum Index {
     At(usize),
     Nothing,

@@ -11,7 +11,7 @@ use text::switches::{Switches, present};
 use text::utf8::valid_front;
 
 // How many bytes were written, or the number of the refusal, 19 or 20.
-#[derive(Drop)]
+#[derive(Clone, Copy)]
 pub enum Given {
     Bytes(usize),
     Refused(u8),

@@ -11,7 +11,7 @@ use text::span::Span;
 use text::switches::Switches;
 
 // The place of a duplicate key.
-#[derive(Drop)]
+#[derive(Clone, Copy)]
 pub enum Duplicate {
     At(usize),
     Nowhere,

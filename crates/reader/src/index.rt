@@ -43,14 +43,14 @@ const CONTENT: usize = 2;
 const CELLS: usize = 2 * MAX_NODES;
 
 // Where a content comes to: the last node whose test it passes, 0 if there is none, and an empty cell.
-#[derive(Drop)]
+#[derive(Clone, Copy)]
 pub struct Leaf {
     pub node: usize,
     pub cell: usize,
 }
 
 // A content that is in the index; or one that is not, with the cell that it belongs in and the test to set.
-#[derive(Drop)]
+#[derive(Clone, Copy)]
 pub enum Lookup {
     Known,
     New(usize, u16),

@@ -20,14 +20,14 @@ use text::span::Span;
 use text::switches::Switches;
 
 // The next token, where the text may not end.
-#[derive(Drop)]
+#[derive(Clone, Copy)]
 pub enum Ahead {
     Token(Token),
     Refused(Refusal),
 }
 
 // The end of the next token, where one mark alone is allowed.
-#[derive(Drop)]
+#[derive(Clone, Copy)]
 pub enum Only {
     At(usize),
     Refused(Refusal),
@@ -35,7 +35,7 @@ pub enum Only {
 
 // A child's first token with its key's span, the end of the container, or a refusal; or a refusal after a key, which stands only if the key
 // is new.
-#[derive(Drop)]
+#[derive(Clone, Copy)]
 pub enum Item {
     Value { token: Token, key: Span },
     Last(usize),
@@ -44,7 +44,7 @@ pub enum Item {
 }
 
 // After a child: the end of a comma, the end of the container, or a refusal.
-#[derive(Drop)]
+#[derive(Clone, Copy)]
 pub enum After {
     More(usize),
     Over(usize),

@@ -1,4 +1,6 @@
 // The reader: from a text to a flat table of nodes, and the content call.
+#![tactic(auto)]
+
 pub mod begin;
 pub mod content;
 pub mod duplicates;

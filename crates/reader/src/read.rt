@@ -16,7 +16,7 @@ use text::switches::{Switches, present};
 use text::utf8::valid_front;
 
 // A text was read as one value, from `start` to `stop`, with so many nodes; or a refusal.
-#[derive(Drop)]
+#[derive(Clone, Copy)]
 pub enum Whole {
     Done {
         start: usize,
@@ -27,7 +27,7 @@ pub enum Whole {
 }
 
 // What reading a text answers: the node count, or a refusal.
-#[derive(Drop)]
+#[derive(Clone, Copy)]
 pub enum Reading {
     Taken(usize),
     Refused(Refusal),

@@ -34,7 +34,7 @@ use text::span::Span;
 use text::switches::Switches;
 
 // A value was read: the place after it, and the number of nodes then; or a refusal.
-#[derive(Drop)]
+#[derive(Clone, Copy)]
 pub enum Progress {
     Done(usize, usize),
     Refused(Refusal),

@@ -216,7 +216,7 @@ leaves_from s i =
 pub record Passed (s : List ℕ) (i r : ℕ) : Type 0 where
   pub goes_up : i ≤ r
   pub ends_inside : r ≤ length s
-  pub goes_on_law : whole_front (feed utf8_step (Whole i) (drop i s)) ≡ whole_front (feed utf8_step (Whole r) (drop r s))
+  pub goes_on : whole_front (feed utf8_step (Whole i) (drop i s)) ≡ whole_front (feed utf8_step (Whole r) (drop r s))
   pub counts_on : eights 0 (Whole i) (drop i s) ≡ eights 0 (Whole r) (drop r s)
   pub stops : r ≡ i → whole_front (feed utf8_step (Whole i) (drop i s)) ≡ i
   pub counts_no_more : r ≡ i → eights 0 (Whole i) (drop i s) ≡ 0
@@ -244,7 +244,7 @@ module _ (s : List ℕ) (i r : ℕ) where
           record {
             goes_up = omega arith;
             ends_inside = omega arith;
-            goes_on_law = ap whole_front (fed ∙ all ∙ ap (feed utf8_step (Whole r)) there);
+            goes_on = ap whole_front (fed ∙ all ∙ ap (feed utf8_step (Whole r)) there);
             counts_on = counted ∙ count_past k u l c ∙ (λ z. eights 0 (f z) (there z));
             stops = λ q. absurd (omega arith);
             counts_no_more = λ q. absurd (omega arith);
@@ -253,7 +253,7 @@ module _ (s : List ℕ) (i r : ℕ) where
           record {
             goes_up = omega arith;
             ends_inside = omega arith;
-            goes_on_law = ap (λ (x : ℕ). whole_front (feed utf8_step (Whole x) (drop x s))) (sym e);
+            goes_on = ap (λ (x : ℕ). whole_front (feed utf8_step (Whole x) (drop x s))) (sym e);
             counts_on = ap (λ (x : ℕ). eights 0 (Whole x) (drop x s)) (sym e);
             stops = λ _. ap whole_front fed ∙ f;
             counts_no_more =

@@ -8,7 +8,7 @@ ghost use Rattle.text.specs.Internal.{bytes_read};
 use crate::utf8::{Utf8, utf8_step};
 
 // Up to four bytes: those of a character, or those that a step of a decoder gives.
-#[derive(Drop)]
+#[derive(Clone, Copy)]
 pub enum Few {
     Zero,
     One(u8),

@@ -1,4 +1,6 @@
 // Bytes and their classes, bytes put into buffers, a few bytes by value, spans, refusals, UTF-8, and the switches in which the editions of Duper differ.
+#![tactic(auto)]
+
 pub mod buffers;
 pub mod bytes;
 pub mod few;

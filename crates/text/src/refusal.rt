@@ -1,7 +1,7 @@
 // Refusals: a number of the papers' table and a place; and the numbers by name.
 
 // Why something was refused, and where: a place in the text unless the number's own row says otherwise.
-#[derive(Drop)]
+#[derive(Clone, Copy)]
 pub struct Refusal {
     pub number: u8,
     pub place: usize,

@@ -1,7 +1,7 @@
 // Spans: bytes that stand side by side.
 
 // The bytes from `start` to before `stop`.
-#[derive(Drop)]
+#[derive(Clone, Copy)]
 pub struct Span {
     pub start: usize,
     pub stop: usize,

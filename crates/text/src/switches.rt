@@ -2,7 +2,7 @@
 ghost use Rattle.std.specs.Prelude.{◌≡◌};
 ghost use Rattle.text.specs.Switches.{present_edition};
 
-#[derive(Drop)]
+#[derive(Clone, Copy)]
 pub struct Switches {
     // Whether `"` and `b"` may hold a bare 09.
     pub quoted_tab: bool,

@@ -8,7 +8,7 @@ use crate::few::Few;
 // Where the machine stands. Whole(n): n bytes, all of whole characters. Part: n bytes of whole characters, then `read` bytes of
 // a begun one; its next byte lies in low..high, and `more` bytes follow that. Broken(n): what follows the first n bytes is no
 // character.
-#[derive(Drop)]
+#[derive(Clone, Copy)]
 pub enum Utf8 {
     Whole(usize),
     Part {
@@ -196,7 +196,7 @@ fn plain_eight(s: &[u8], i: usize) -> bool
 }
 
 // What the check of a slice tells: the length of its longest front that is UTF-8, and how many eights of plain bytes it passed over.
-#[derive(Drop)]
+#[derive(Clone, Copy)]
 pub struct Checked {
     pub front: usize,
     pub eights: usize,

@@ -4,6 +4,8 @@
 // decimal number of five digits). `t`: the tokens of the text, each with its value and places, up to the end or the first fault.
 // `u`: the length of the longest front that is UTF-8, and how many eights of plain bytes the check passed over. `k`: whether the
 // first two tokens are keys with the same content.
+#![tactic(auto)]
+
 ghost use Rattle.std.specs.Prelude.{◌<◌};
 
 mod keys;
