@@ -1,0 +1,22 @@
+use native.Mathlib.Omega.{arith}
+use borrow.Author.Tests.{lt-ltb, le-ltb, eq-eqb, ne_eqb}
+use Rattle.text.specs.Bytes.{digit_value}
+use Rattle.literals.specs.Number.{number_step}
+use Rattle.literals.specs.InternalNumber.{capped}
+use Rattle.literals.proofs.NumberLaws.{cap_cap}
+use Rattle.literals.proofs.number.based_step.Goals as goal
+
+pub returns-then-d-base : goal.returns-then-d-base
+unfolding number_step capped
+returns-then-d-base c =
+    rw (lt-ltb (digit_value c.args.b) c.args.base (omega arith), c.and_digit.ensures, c.digit_of-d.ensures.value, cap_cap)
+
+pub returns-then-b-eq95 : goal.returns-then-b-eq95
+unfolding number_step capped
+returns-then-b-eq95 c =
+    rw (le-ltb (digit_value c.args.b) c.args.base (omega arith), eq-eqb _ 95 c.if-b-eq95.true)
+
+pub returns : goal.returns
+unfolding number_step capped
+returns c =
+    rw (le-ltb (digit_value c.args.b) c.args.base (omega arith), ne_eqb _ 95 c.if-b-eq95.false)

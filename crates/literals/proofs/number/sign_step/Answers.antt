@@ -1,0 +1,16 @@
+use borrow.Author.Tests.{eq-eqb, ne_eqb}
+use Rattle.literals.specs.Number.{number_step}
+use Rattle.literals.specs.InternalNumber.{capped}
+use Rattle.literals.proofs.number.sign_step.Goals as goal
+
+pub returns-then-b-eq48 : goal.returns-then-b-eq48
+unfolding number_step capped
+returns-then-b-eq48 c = rw (eq-eqb _ 48 c.if-b-eq48.true)
+
+pub returns-then-is_one_to_nine : goal.returns-then-is_one_to_nine
+unfolding number_step capped
+returns-then-is_one_to_nine c = rw (ne_eqb _ 48 c.if-b-eq48.false, ← c.is_one_to_nine.ensures, c.if-is_one_to_nine.true, c.digit_of.ensures.value)
+
+pub returns : goal.returns
+unfolding number_step capped
+returns c = rw (ne_eqb _ 48 c.if-b-eq48.false, ← c.is_one_to_nine.ensures, c.if-is_one_to_nine.false)
