@@ -2,10 +2,9 @@
 -- So a text may be changed behind an item, and the item stays.
 -- Assumes nothing.
 use mathlib.Core.Path.{◌≡◌, refl, sym, ap, ◌∙◌, subst}
-use Prim.Native.Nat.{ℕ, suc, ◌+◌, ◌-◌, ◌≤◌}
+use Prim.Native.Nat.{ℕ, suc, ◌+◌, ◌≤◌}
 use native.Mathlib.Omega.{arith}
 use mathlib.Core.Bool.{Bool, true, false, cond, ◌&&◌, ◌||◌}
-use mathlib.Core.Option.{none}
 use mathlib.Core.List.{List, [], ◌∷◌, ◌++◌}
 use lib.Dec.{eqb}
 use lib.ListN.{length, drop}
@@ -14,7 +13,7 @@ use Rattle.text.specs.declared.switches.Switches.{Switches}
 use Rattle.text.specs.Bytes.{starts_with, Class, class_of, is_word_byte, is_letter_or_digit, is, ascii}
 use Rattle.text.proofs.Choice.{cond-case, cond-true, cond-false, and_left, and_right, and_off}
 use Rattle.literals.specs.declared.decoder.Body.TheVariants as Y
-use Rattle.lexer.specs.Token.{mark, Item, string_item, hash_count, raw_item, opens_raw, word_item, number_item, small_item, item_of, item}
+use Rattle.lexer.specs.Token.{Item, string_item, hash_count, raw_item, opens_raw, word_item, number_item, small_item, item_of, item}
 use Rattle.lexer.proofs.Seams.{EndsAt, ItemSeam, Seam, WordSeam, heads}
 use Rattle.lexer.proofs.LocalRuns.{front_stop, number_local, word_front, word_local, word_seam}
 use Rattle.lexer.proofs.LocalStrings.{begins_same, comment_local, no_false, opened_local, raw_less, raw_local, raw_long, raw_at, string_head, string_local}

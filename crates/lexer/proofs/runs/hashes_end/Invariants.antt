@@ -1,0 +1,11 @@
+use mathlib.Core.Path.{◌≡◌}
+use Prim.Native.Nat.{◌-◌, ◌+◌}
+use lib.ListN.{length, drop}
+use Rattle.text.specs.Bytes.{front, is}
+use Rattle.lexer.proofs.runs.hashes_end.Given as goal
+
+abbrev pub invariant-loop-i : goal.invariant-loop-i
+invariant-loop-i l = l.from + front (is "#") (drop l.from l.text) ≡ l.i + front (is "#") (drop l.i l.text)
+
+abbrev pub decreases-loop-i : goal.decreases-loop-i
+decreases-loop-i l = length l.text - l.i

@@ -1,0 +1,11 @@
+use mathlib.Core.Path.{◌≡◌}
+use Prim.Native.Nat.{◌-◌, ◌+◌}
+use lib.ListN.{length, drop}
+use Rattle.text.specs.Bytes.{front, is_word_byte}
+use Rattle.lexer.proofs.runs.word_end.Given as goal
+
+abbrev pub invariant-loop-i : goal.invariant-loop-i
+invariant-loop-i l = l.from + front is_word_byte (drop l.from l.text) ≡ l.i + front is_word_byte (drop l.i l.text)
+
+abbrev pub decreases-loop-i : goal.decreases-loop-i
+decreases-loop-i l = length l.text - l.i
