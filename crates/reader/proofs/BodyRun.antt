@@ -29,7 +29,7 @@ use Rattle.reader.specs.declared.duplicates.Duplicate.{Duplicate}
 use Rattle.reader.specs.declared.duplicates.Duplicate.TheVariants as D
 use Rattle.reader.specs.declared.values.Progress.{Progress}
 use Rattle.reader.specs.declared.values.Progress.TheVariants as A
-use Rattle.reader.specs.Tree.{Span, branch, Forest, nil, snoc, count, size, sizes, head_of, rows, rows_all, node_words}
+use Rattle.reader.specs.Tree.{branch, Forest, nil, snoc, count, size, sizes, head_of, rows, rows_all, node_words}
 use Rattle.reader.specs.Reading.{max_nodes}
 use Rattle.reader.specs.Syntax.{Label, label, Frame, frame, Slot, after, Mode, value, Config, config, refuse_if, Begins, container, is_object, head_by, ended, finished, no_node, counted, value_step, Outcome, refused, after_step}
 use Rattle.reader.specs.Internal.Tokens.{begins_at}

@@ -32,7 +32,7 @@ use Rattle.reader.specs.declared.items.Item.{Item}
 use Rattle.reader.specs.declared.items.Item.TheVariants as I
 use Rattle.reader.specs.Tree.{Span, branch, Forest}
 use Rattle.reader.specs.Reading.{max_text}
-use Rattle.reader.specs.Syntax.{Label, Frame, frame, Slot, first, lone, after, more, value, inside, colon, Config, config, Step, go, span_of, is_mark, is_object, closer, key_of, head_by, ended, refuse_if, holds, key_step, empty_by_comma, child_step, mode_step, step, Outcome, refused, after_step, at_end}
+use Rattle.reader.specs.Syntax.{Label, Frame, frame, Slot, lone, after, more, value, inside, colon, Config, config, Step, go, span_of, is_mark, is_object, closer, key_of, head_by, ended, refuse_if, holds, key_step, empty_by_comma, child_step, mode_step, step, Outcome, refused, after_step, at_end}
 use Rattle.reader.specs.Internal.Tokens.{form_at, token_at, TokenAt}
 use Rattle.reader.specs.Internal.Values
 use Rattle.reader.specs.Internal.Ahead.{mark_is, closer_byte, ahead_at, only_at, ahead_after, follows_by, follows_at}

@@ -1,0 +1,26 @@
+use mathlib.Core.Path.{refl, ap}
+use Rattle.reader.specs.declared.tree.Kind.TheVariants.{Array, Tuple}
+use Rattle.reader.specs.Syntax.{is_object}
+use Rattle.reader.proofs.ItemRun.{no_object}
+use Rattle.reader.proofs.DuplicateLaws.{first_other, late_after_at, late_after_key, late_after_other}
+use Rattle.reader.proofs.late.late_after.Goals as goal
+
+pub find_duplicate-requires : goal.find_duplicate-requires
+find_duplicate-requires c = c.requires.keys
+
+pub key_refusal-requires : goal.key_refusal-requires
+key_refusal-requires c = record { have_keys = c.requires.keys.siblings (ap is_object c.in-Object.is); key_here = c.requires.key_in.here (ap is_object c.in-Object.is) }
+
+pub returns-in-At : goal.returns-in-At
+returns-in-At c = late_after_at c.find_duplicate.ensures c.in-At.is
+
+pub returns-in-Nowhere : goal.returns-in-Nowhere
+returns-in-Nowhere c = late_after_key c.find_duplicate.ensures c.in-Nowhere.is c.in-Object.is c.key_refusal.ensures
+
+pub returns-in-Array : goal.returns-in-Array
+returns-in-Array c =
+    late_after_other (first_other (no_object c.args.kind Array c.in-Array.is refl)) refl (no_object c.args.kind Array c.in-Array.is refl)
+
+pub returns-in-Tuple : goal.returns-in-Tuple
+returns-in-Tuple c =
+    late_after_other (first_other (no_object c.args.kind Tuple c.in-Tuple.is refl)) refl (no_object c.args.kind Tuple c.in-Tuple.is refl)
