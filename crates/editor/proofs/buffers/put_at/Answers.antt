@@ -1,0 +1,26 @@
+use native.Mathlib.Omega.{arith}
+use mathlib.Core.Path.{refl, ap, ◌∙◌}
+use mathlib.Core.List.{List}
+use Prim.Native.Nat.{ℕ, ◌-◌, ◌+◌}
+use lib.ListN.{set, get_or, length-set}
+use lib.Seq.{paste-zero}
+use Rattle.editor.proofs.BufferLaws.{paste_next, paste_whole}
+use Rattle.editor.proofs.buffers.put_at.Goals as goal
+
+pub loop-i-init : goal.loop-i-init
+loop-i-init c = (omega arith, refl, paste-zero c.args.dst.now c.args.at c.args.src.now)
+
+pub loop-i-preserved : goal.loop-i-preserved
+loop-i-preserved c = (
+  omega arith,
+  length-set c.loop-i.dst (c.args.at + c.loop-i.i) (get_or c.args.src.now c.loop-i.i 0) ∙ c.loop-i.invariant.1,
+  ap (λ (l : List ℕ). set l (c.args.at + c.loop-i.i) (get_or c.args.src.now c.loop-i.i 0)) c.loop-i.invariant.2
+      ∙ paste_next c.args.dst.now c.args.at c.args.src.now c.loop-i.i (omega arith) (omega arith),
+)
+
+pub shape_of-dst : goal.shape_of-dst
+shape_of-dst c = c.loop-i.invariant.1
+
+pub returns : goal.returns
+returns c =
+    c.loop-i.invariant.2 ∙ paste_whole c.args.dst.now c.args.at c.args.src.now c.loop-i.i (omega arith)
