@@ -1,6 +1,6 @@
 -- What only the contracts of this crate's inner functions cite. Nothing below has to be believed: the public contracts don't name it.
 -- Assumes nothing.
-use Rattle.std.specs.Prelude.{ℕ, ◌+◌, ◌-◌, ◌≤◌, ◌≡◌, true, not, cond, List, ltb, eqb, length, take}
+use Rattle.std.specs.Prelude.{ℕ, ◌+◌, ◌≤◌, ◌≡◌, true, not, cond, List, ltb, eqb, length, take}
 use Rattle.text.specs.declared.refusal.Refusal.{Refusal}
 use Rattle.text.specs.declared.span.Span.{Span}
 use Rattle.text.specs.declared.switches.Switches.{Switches}

@@ -1,7 +1,7 @@
 use native.Mathlib.Omega.{arith}
 use mathlib.Core.Path.{refl, ap, ◌∙◌}
 use mathlib.Core.List.{List}
-use Prim.Native.Nat.{ℕ, ◌-◌}
+use Prim.Native.Nat.{ℕ}
 use lib.ListN.{set, length-set}
 use Rattle.editor.proofs.BufferLaws.{zero_start, zero_next, zero_whole}
 use Rattle.editor.proofs.buffers.zero_out.Goals as goal

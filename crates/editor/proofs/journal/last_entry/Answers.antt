@@ -1,4 +1,3 @@
-use Prim.Native.Nat.{◌-◌}
 use Rattle.editor.proofs.LastEntryLaws.{last_nothing, last_short, last_small, last_large, last_past, last_good}
 use Rattle.editor.proofs.journal.last_entry.Goals as goal
 

@@ -1,6 +1,5 @@
 use native.Mathlib.Omega.{arith}
 use mathlib.Core.Path.{refl, sym, ◌∙◌}
-use Prim.Native.Nat.{◌-◌}
 use lib.Seq.{length-take-le}
 use Rattle.editor.specs.Edit.{text_of}
 use Rattle.editor.proofs.TrialLaws.{try_14, try_15, try_16, try_done}
