@@ -1,4 +1,4 @@
-// The calls for C and Rust: each answers one 64-bit number. A slice crosses as its pointer and its count of elements.
+// The calls for C and Rust, which `duper_c` exports: each answers one 64-bit number. A slice crosses as its pointer and its count of elements.
 #![tactic(auto)]
 
 ghost use Rattle.std.specs.Prelude.{◌≡◌, [], ◌∷◌, ◌≤◌, length};
@@ -35,8 +35,7 @@ fn packed(refusal: Refusal) -> u64
 
 // Checks bytes as UTF-8: the length of their longest front that is. `eights` is then how many times the check passed over eight bytes below
 // 80 hex in one step.
-#[unsafe(no_mangle)]
-pub extern "C" fn duper_utf8(text: &[u8], eights: &mut [u64; 1]) -> u64
+pub fn duper_utf8(text: &[u8], eights: &mut [u64; 1]) -> u64
     ensures { (result ≡ whole_front (utf8 text.now)) × (eights.new ≡ plain_eights text.now ∷ []) }
 {
     let checked = check_utf8(text);
@@ -45,8 +44,7 @@ pub extern "C" fn duper_utf8(text: &[u8], eights: &mut [u64; 1]) -> u64
 }
 
 // Reads a text of the present edition into the table: the node count, or else the refusal times 4294967296 plus its place.
-#[unsafe(no_mangle)]
-pub extern "C" fn duper_read(text: &[u8], table: &mut [u32]) -> u64
+pub fn duper_read(text: &[u8], table: &mut [u32]) -> u64
     ensures { (result ≡ read_number (reading present_edition (length table.old) text.now)) × (table.new ≡ table_of (length table.old) (reading present_edition (length table.old) text.now)) }
 {
     match reader::read::read(text, table) {
@@ -57,8 +55,7 @@ pub extern "C" fn duper_read(text: &[u8], table: &mut [u32]) -> u64
 
 // Writes the content of the string or key that stands in the text from `start` to before `end` at the output's front: the bytes written,
 // or else the refusal times 4294967296.
-#[unsafe(no_mangle)]
-pub extern "C" fn duper_content(text: &[u8], start: u64, end: u64, out: &mut [u8]) -> u64
+pub fn duper_content(text: &[u8], start: u64, end: u64, out: &mut [u8]) -> u64
     ensures { (result ≡ content_number (content_call present_edition start end text.now out.old)) × (out.new ≡ written (content_call present_edition start end text.now out.old) out.old) }
 {
     match reader::content::content(text, start as usize, end as usize, out) {
@@ -83,8 +80,7 @@ fn tell(change: Change, answer: &mut [u64; 3]) -> u64
 
 // Replaces the value of a node, in the present edition: the refusal times 4294967296 plus its place, or 0 if it was done. `answer` is then
 // the node count, the text's length in use and the journal's.
-#[unsafe(no_mangle)]
-pub extern "C" fn duper_correct(
+pub fn duper_correct(
     text: &mut [u8],
     used: usize,
     journal: &mut [u8],
@@ -105,8 +101,7 @@ pub extern "C" fn duper_correct(
 }
 
 // Takes back the correction that the journal's last entry is of, in the present edition: answers as `duper_correct` does.
-#[unsafe(no_mangle)]
-pub extern "C" fn duper_undo(
+pub fn duper_undo(
     text: &mut [u8],
     used: usize,
     journal: &mut [u8],
@@ -126,8 +121,7 @@ pub extern "C" fn duper_undo(
 
 // Reads a text of the present edition into the table, and answers the number of the node that the path leads to; or else the refusal times
 // 4294967296 plus its place: that of the reading, or 23 and the number of the first step, from 0, that has no child to go to.
-#[unsafe(no_mangle)]
-pub extern "C" fn duper_find(text: &[u8], table: &mut [u32], path: &[u8]) -> u64
+pub fn duper_find(text: &[u8], table: &mut [u32], path: &[u8]) -> u64
     ensures { (result ≡ found_number (found present_edition text.now path.now (reading present_edition (length table.old) text.now))) × (table.new ≡ table_of (length table.old) (reading present_edition (length table.old) text.now)) }
 {
     match path::find::find(text, table, path) {
@@ -140,8 +134,7 @@ pub extern "C" fn duper_find(text: &[u8], table: &mut [u32], path: &[u8]) -> u64
 // reading; or 21 and 0 for a root that is no array, else the number of the first element that is no object. `counts` is then how many heights
 // are measured, null, absent and unfit, and `heights` the least, the greatest and the mean of the measured ones, in micrometres. A refusal
 // leaves both as they were. Where no height is measured, `heights` stays as it was.
-#[unsafe(no_mangle)]
-pub extern "C" fn duper_summary(
+pub fn duper_summary(
     text: &[u8],
     table: &mut [u32],
     counts: &mut [u64; 4],
@@ -167,8 +160,7 @@ pub extern "C" fn duper_summary(
 // to the front of `out` as one array, and a number for each line to the front of `verdicts`: 0 if it is kept, else its refusal's. `answer` is
 // then the bytes written and the number of lines. A refusal leaves `out` and `verdicts` as they were, and both numbers are 0. The table, into
 // which the lines are read, is zeros in the end.
-#[unsafe(no_mangle)]
-pub extern "C" fn duper_salvage(
+pub fn duper_salvage(
     log: &[u8],
     table: &mut [u32],
     out: &mut [u8],
