@@ -1,5 +1,11 @@
-// The text's bytes, from a descriptor or a file.
+// The text's bytes, from a descriptor or a file; and the program's arguments.
+ghost use Rattle.std.specs.Prelude.{◌≡◌, false, MatchOption};
 ghost use Rattle.io.specs.Counts.{IsPrefixLen};
+
+use std::env::FillError;
+use std::io::{Error, ErrorKind, Read};
+use std::rt::Env;
+use std::{fs, str};
 
 // Room for a text. It has at most 65,536 bytes: one byte more shows that it is too long, and what comes after that byte isn't
 // read.
@@ -12,28 +18,74 @@ pub struct Filled {
     pub count: usize,
 }
 
+// What failed, as the caller names it, and why, as a line on standard error. Where it can't be written, there is nowhere left to
+// say so.
+pub fn fail(rt: &HostRuntime, what: &[u8], error: Error) {
+    let _named = rt.stderr().write_all(what);
+    let _said = eprintln!(rt; ": {error}");
+}
+
+// How the program is called, on standard error.
+pub fn say_usage(rt: &HostRuntime, usage: &[u8]) {
+    let _said = rt.stderr().write_all(usage);
+}
+
+// Whether the program was given argument `i`. Argument 0 is its name.
+pub fn has_argument(rt: &HostRuntime, i: usize) -> bool {
+    let mut room = [0u8; 1];
+    match rt.arg(i, &mut room) {
+        Err(FillError::NotPresent) => false,
+        _ => true,
+    }
+}
+
+// Argument `i`, at the buffer's front: its length. Where it is longer than the buffer, or there is none, standard error says so of
+// `what`, and the answer is `None`.
+pub fn argument(rt: &HostRuntime, i: usize, what: &[u8], buf: &mut [u8]) -> Option<usize>
+    ensures { MatchOption result (Unit {0}) (λ n. IsPrefixLen n buf.new) }
+{
+    match rt.arg(i, buf) {
+        Ok(n) => Some(n),
+        Err(_) => {
+            fail(rt, what, Error::from(ErrorKind::InvalidFilename));
+            None
+        }
+    }
+}
+
+// What a failed read gives: nothing of it counts.
+fn unread() -> Filled
+    ensures { (result.is_read ≡ false) × (result.count ≡ 0) }
+{
+    Filled {
+        is_read: false,
+        count: 0,
+    }
+}
+
 // Reads until buf is full or the input ends. A read that fails is told from the end of the input, so that an unreadable file
-// isn't taken for an empty text.
-fn fill(fd: i32, buf: &mut [u8]) -> Filled
+// isn't taken for an empty text; it is said on standard error, where `name` is what was read.
+pub fn fill_from<R: Read>(rt: &HostRuntime, from: &mut R, name: &[u8], buf: &mut [u8]) -> Filled
     ensures { IsPrefixLen result.count buf.new }
 {
     let mut n = 0;
     while n < buf.len() {
-        let got = libc::read(fd, &mut buf[n..]);
-        if got < 0 {
-            return Filled {
-                is_read: false,
-                count: n,
-            };
+        match from.read(&mut buf[n..]) {
+            Ok(0) => {
+                return Filled {
+                    is_read: true,
+                    count: n,
+                };
+            }
+            Ok(more) => n += more,
+            Err(error) => {
+                fail(rt, name, error);
+                return Filled {
+                    is_read: false,
+                    count: n,
+                };
+            }
         }
-        let more = io::count(got, &buf[n..]);
-        if more == 0 {
-            return Filled {
-                is_read: true,
-                count: n,
-            };
-        }
-        n += more;
     }
     Filled {
         is_read: true,
@@ -41,47 +93,33 @@ fn fill(fd: i32, buf: &mut [u8]) -> Filled
     }
 }
 
-// The same, but a read that fails is said on standard error, where `name` is what was read.
-pub fn fill_from(fd: i32, name: &[u8], buf: &mut [u8]) -> Filled
+// The same from the file of this name. A file that can't be opened counts as a read that failed.
+fn fill_file(rt: &HostRuntime, name: &[u8], buf: &mut [u8]) -> Filled
     ensures { IsPrefixLen result.count buf.new }
 {
-    let got = fill(fd, buf);
-    if got.is_read {
-        return got;
+    let Ok(path) = str::from_utf8(name) else {
+        fail(rt, name, Error::from(ErrorKind::InvalidFilename));
+        return unread();
+    };
+    match fs::open(rt, path) {
+        Ok(mut file) => fill_from(rt, &mut file, name, buf),
+        Err(error) => {
+            fail(rt, name, error);
+            unread()
+        }
     }
-    os::fail(name);
-    got
 }
 
-// The same from the file of this name. A file that can't be opened counts as a read that failed.
-fn fill_file(name: &[u8], buf: &mut [u8]) -> Filled
-    ensures { IsPrefixLen result.count buf.new }
-{
-    let fd = os::open_read(name);
-    if fd < 0 {
-        os::fail(name);
-        return Filled {
-            is_read: false,
-            count: 0,
-        };
-    }
-    let got = fill_from(fd, name, buf);
-    libc::close(fd);
-    got
-}
+// The longest name of a file, with the zero that C ends it with.
+const NAME_ROOM: usize = 4096;
 
 // The same from the file that argument `i` names.
-pub fn fill_named(i: usize, buf: &mut [u8]) -> Filled
+pub fn fill_named(rt: &HostRuntime, i: usize, buf: &mut [u8]) -> Filled
     ensures { IsPrefixLen result.count buf.new }
 {
-    let mut name = io::buffer();
-    let length = os::arg(i, &mut name);
-    if os::errno() != 0 {
-        os::fail(b"the file's name");
-        return Filled {
-            is_read: false,
-            count: 0,
-        };
+    let mut name = [0u8; NAME_ROOM];
+    match argument(rt, i, b"the file's name", &mut name) {
+        Some(length) => fill_file(rt, &name[..length], buf),
+        None => unread(),
     }
-    fill_file(&name[..length], buf)
 }

@@ -6,8 +6,9 @@ use reader::rows::word_of;
 use reader::tree::MAX_NODES;
 
 // The line of node n: its kind, and where its value starts and ends.
-fn print_node(table: &[u32], n: usize) {
+fn print_node(rt: &HostRuntime, table: &[u32], n: usize) {
     lines::node(
+        rt,
         n,
         word_of(table, n, rows::KIND),
         word_of(table, n, rows::START),
@@ -17,12 +18,12 @@ fn print_node(table: &[u32], n: usize) {
 
 // The line of the node that the path leads to, or of the refusal. A text that is read has at most 4,096 nodes, and the table
 // here holds as many.
-pub(crate) fn print(text: &[u8], path: &[u8]) {
+pub(crate) fn print(rt: &HostRuntime, text: &[u8], path: &[u8]) {
     let mut table = [0u32; rows::NODE_WORDS * MAX_NODES];
     match find(text, &mut table, path) {
-        Found::At(n) => print_node(&table, n),
+        Found::At(n) => print_node(rt, &table, n),
         Found::Refused(refusal) => {
-            lines::refused(refusal.number, refusal.place);
+            lines::refused(rt, refusal.number, refusal.place);
         }
     }
 }

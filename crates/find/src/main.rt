@@ -9,33 +9,28 @@
 mod answer;
 
 use console::input;
-use libc::STDERR_FILENO;
 
 // The room for the path: Linux hands over no argument that is longer.
 const PATH_ROOM: usize = 131072;
 
 // Asks the text by the path.
-fn ask(text: &[u8]) {
+fn ask(rt: &HostRuntime, text: &[u8]) {
     let mut path = [0u8; PATH_ROOM];
-    let length = os::arg(2, &mut path);
-    if os::errno() != 0 {
-        os::fail(b"the path");
-        return;
+    if let Some(length) = input::argument(rt, 2, b"the path", &mut path) {
+        answer::print(rt, text, &path[..length]);
     }
-    answer::print(text, &path[..length]);
 }
 
-// The arguments are counted with the program's own name.
-fn main() {
-    if os::arg_count() != 3 {
-        io::write_all(STDERR_FILENO, b"usage: find FILE PATH\n");
+fn main(rt: HostRuntime) {
+    if !input::has_argument(&rt, 2) || input::has_argument(&rt, 3) {
+        input::say_usage(&rt, b"usage: find FILE PATH\n");
         return;
     }
     let mut buffer = [0u8; input::TEXT_ROOM];
-    let got = input::fill_named(1, &mut buffer);
+    let got = input::fill_named(&rt, 1, &mut buffer);
     if !got.is_read {
         return;
     }
     let n = got.count;
-    ask(&buffer[..n]);
+    ask(&rt, &buffer[..n]);
 }

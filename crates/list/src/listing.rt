@@ -5,12 +5,12 @@ use reader::rows;
 use reader::rows::word_of;
 
 // The lines of the table's first nodes, `count` of them, up to one that can't be written.
-fn nodes(table: &[u32], count: usize) {
+fn nodes(rt: &HostRuntime, table: &[u32], count: usize) {
     for i in 0..count {
         let kind = word_of(table, i, rows::KIND);
         let start = word_of(table, i, rows::START);
         let stop = word_of(table, i, rows::STOP);
-        if !lines::node(i, kind, start, stop) {
+        if !lines::node(rt, i, kind, start, stop) {
             return;
         }
     }
@@ -20,12 +20,12 @@ fn nodes(table: &[u32], count: usize) {
 const LISTED: usize = 1024;
 
 // Lists the nodes of a text.
-pub(crate) fn list(text: &[u8]) {
+pub(crate) fn list(rt: &HostRuntime, text: &[u8]) {
     let mut table = [0u32; rows::NODE_WORDS * LISTED];
     match read(text, &mut table) {
-        Reading::Taken(count) => nodes(&table, count),
+        Reading::Taken(count) => nodes(rt, &table, count),
         Reading::Refused(refusal) => {
-            lines::refused(refusal.number, refusal.place);
+            lines::refused(rt, refusal.number, refusal.place);
         }
     }
 }

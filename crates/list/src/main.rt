@@ -11,29 +11,27 @@ ghost use Rattle.io.specs.Counts.{IsPrefixLen};
 
 use console::input;
 use console::input::Filled;
-use libc::{STDERR_FILENO, STDIN_FILENO};
 
-// The text's bytes. The arguments are counted with the program's own name.
-fn fill_text(arguments: usize, buf: &mut [u8]) -> Filled
+// The text's bytes.
+fn fill_text(rt: &HostRuntime, buf: &mut [u8]) -> Filled
     ensures { IsPrefixLen result.count buf.new }
 {
-    if arguments == 2 {
-        return input::fill_named(1, buf);
+    if input::has_argument(rt, 1) {
+        return input::fill_named(rt, 1, buf);
     }
-    input::fill_from(STDIN_FILENO, b"standard input", buf)
+    input::fill_from(rt, &mut rt.stdin(), b"standard input", buf)
 }
 
-fn main() {
-    let arguments = os::arg_count();
-    if 2 < arguments {
-        io::write_all(STDERR_FILENO, b"usage: list FILE, or list < FILE\n");
+fn main(rt: HostRuntime) {
+    if input::has_argument(&rt, 2) {
+        input::say_usage(&rt, b"usage: list FILE, or list < FILE\n");
         return;
     }
     let mut buffer = [0u8; input::TEXT_ROOM];
-    let got = fill_text(arguments, &mut buffer);
+    let got = fill_text(&rt, &mut buffer);
     if !got.is_read {
         return;
     }
     let n = got.count;
-    listing::list(&buffer[..n]);
+    listing::list(&rt, &buffer[..n]);
 }

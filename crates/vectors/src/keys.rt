@@ -5,12 +5,12 @@ use lexer::item::{Next, next_token};
 use lexer::token::{content_is, is_key, is_keyed, part_of};
 use text::switches::present;
 
-fn no_keys() {
-    super::show::line(b"no keys");
+fn no_keys(rt: &HostRuntime) {
+    super::show::line(rt, b"no keys");
 }
 
 // Two keys, by their bytes.
-fn answer(a: &[u8], b: &[u8]) {
+fn answer(rt: &HostRuntime, a: &[u8], b: &[u8]) {
     let sw = present();
     if is_keyed(sw, a) {
         if is_keyed(sw, b) {
@@ -19,18 +19,18 @@ fn answer(a: &[u8], b: &[u8]) {
             let start = part.span.start;
             let stop = part.span.stop;
             if content_is(sw, a, body, &b[start..stop]) {
-                super::show::line(b"same");
+                super::show::line(rt, b"same");
                 return;
             }
-            super::show::line(b"different");
+            super::show::line(rt, b"different");
             return;
         }
     }
-    no_keys();
+    no_keys(rt);
 }
 
 // A key and the token from `at` on.
-fn second(key: &[u8], text: &[u8], at: usize)
+fn second(rt: &HostRuntime, key: &[u8], text: &[u8], at: usize)
     requires { at ≤ length text.now }
 {
     match next_token(present(), text, at) {
@@ -38,29 +38,29 @@ fn second(key: &[u8], text: &[u8], at: usize)
             if is_key(token) {
                 let start = token.span.start;
                 let stop = token.span.stop;
-                answer(key, &text[start..stop]);
+                answer(rt, key, &text[start..stop]);
                 return;
             }
-            no_keys();
+            no_keys(rt);
         }
-        Next::End(_) => no_keys(),
-        Next::Refused(_) => no_keys(),
+        Next::End(_) => no_keys(rt),
+        Next::Refused(_) => no_keys(rt),
     }
 }
 
 // The first two tokens of a text.
-pub(crate) fn compare(text: &[u8]) {
+pub(crate) fn compare(rt: &HostRuntime, text: &[u8]) {
     match next_token(present(), text, 0) {
         Next::Token(token) => {
             if is_key(token) {
                 let start = token.span.start;
                 let stop = token.span.stop;
-                second(&text[start..stop], text, stop);
+                second(rt, &text[start..stop], text, stop);
                 return;
             }
-            no_keys();
+            no_keys(rt);
         }
-        Next::End(_) => no_keys(),
-        Next::Refused(_) => no_keys(),
+        Next::End(_) => no_keys(rt),
+        Next::Refused(_) => no_keys(rt),
     }
 }

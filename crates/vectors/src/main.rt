@@ -6,13 +6,13 @@
 // first two tokens are keys with the same content.
 #![tactic(auto)]
 
-ghost use Rattle.std.specs.Prelude.{◌<◌};
+ghost use Rattle.std.specs.Prelude.{◌<◌, ◌≤◌, length};
 
 mod keys;
 mod show;
 mod tokens;
 
-use libc::STDIN_FILENO;
+use std::io::Read;
 use text::bytes::byte_at;
 use text::span::MAX_TEXT;
 
@@ -88,9 +88,9 @@ fn plain(case: &[u8], out: &mut [u8]) -> usize {
 }
 
 // One case: its letter, a space, and its text.
-fn run(line: &[u8]) {
+fn run(rt: &HostRuntime, line: &[u8]) {
     if line.len() < 2 {
-        show::line(b"no case");
+        show::line(rt, b"no case");
         return;
     }
     let mut space = [0u8; MAX_TEXT];
@@ -100,26 +100,26 @@ fn run(line: &[u8]) {
     }
     let mode = line[0];
     if mode == b't' {
-        tokens::tokens(&space[..n]);
+        tokens::tokens(rt, &space[..n]);
         return;
     }
     if mode == b'u' {
         let checked = text::utf8::check_utf8(&space[..n]);
-        show::front(checked.front, checked.eights);
+        show::front(rt, checked.front, checked.eights);
         return;
     }
-    keys::compare(&space[..n]);
+    keys::compare(rt, &space[..n]);
 }
 
 // Each line of the input; a line ends with its line feed.
-fn run_all(s: &[u8]) {
+fn run_all(rt: &HostRuntime, s: &[u8]) {
     let mut from = 0;
     let mut i = 0;
     while i < s.len() {
         let at = i;
         i += 1;
         if s[at] == b'\n' {
-            run(&s[from..at]);
+            run(rt, &s[from..at]);
             from = i;
         }
     }
@@ -128,8 +128,24 @@ fn run_all(s: &[u8]) {
 // The room for the cases.
 const BUFFER: usize = 65536;
 
-fn main() {
+// Reads until buf is full, the input ends or a read fails: how many bytes it put at the front of buf.
+fn read_full(rt: &HostRuntime, buf: &mut [u8]) -> usize
+    ensures { result ≤ length buf.new }
+{
+    let mut from = rt.stdin();
+    let mut n = 0;
+    while n < buf.len() {
+        match from.read(&mut buf[n..]) {
+            Ok(0) => return n,
+            Ok(more) => n += more,
+            Err(_) => return n,
+        }
+    }
+    n
+}
+
+fn main(rt: HostRuntime) {
     let mut buffer = [0u8; BUFFER];
-    let n = io::read_full(STDIN_FILENO, &mut buffer);
-    run_all(&buffer[..n]);
+    let n = read_full(&rt, &mut buffer);
+    run_all(&rt, &buffer[..n]);
 }

@@ -1,32 +1,39 @@
-// What is printed of a token.
+// What is printed of a token. Where it can't be written, there is nowhere left to say so.
 use lexer::item::TokenKind;
-use libc::STDOUT_FILENO;
 
-pub(crate) fn line(s: &[u8]) {
-    io::write_all(STDOUT_FILENO, s);
-    io::write_all(STDOUT_FILENO, b"\n");
+fn put(rt: &HostRuntime, s: &[u8]) {
+    let _written = rt.write_all(s);
 }
 
-pub(crate) fn front(n: usize, eights: usize) {
-    io::write_all(STDOUT_FILENO, b"front ");
-    io::print_decimal(STDOUT_FILENO, n as u64);
-    io::write_all(STDOUT_FILENO, b" eights ");
-    io::print_decimal(STDOUT_FILENO, eights as u64);
-    io::write_all(STDOUT_FILENO, b"\n");
+fn put_decimal(rt: &HostRuntime, n: u64) {
+    let _written = print!(rt; "{n}");
 }
 
-pub(crate) fn end(place: usize) {
-    io::write_all(STDOUT_FILENO, b"end ");
-    io::print_decimal(STDOUT_FILENO, place as u64);
-    io::write_all(STDOUT_FILENO, b"\n");
+pub(crate) fn line(rt: &HostRuntime, s: &[u8]) {
+    put(rt, s);
+    put(rt, b"\n");
 }
 
-pub(crate) fn refused(number: u8, place: usize) {
-    io::write_all(STDOUT_FILENO, b"refused ");
-    io::print_decimal(STDOUT_FILENO, number as u64);
-    io::write_all(STDOUT_FILENO, b" ");
-    io::print_decimal(STDOUT_FILENO, place as u64);
-    io::write_all(STDOUT_FILENO, b"\n");
+pub(crate) fn front(rt: &HostRuntime, n: usize, eights: usize) {
+    put(rt, b"front ");
+    put_decimal(rt, n as u64);
+    put(rt, b" eights ");
+    put_decimal(rt, eights as u64);
+    put(rt, b"\n");
+}
+
+pub(crate) fn end(rt: &HostRuntime, place: usize) {
+    put(rt, b"end ");
+    put_decimal(rt, place as u64);
+    put(rt, b"\n");
+}
+
+pub(crate) fn refused(rt: &HostRuntime, number: u8, place: usize) {
+    put(rt, b"refused ");
+    put_decimal(rt, number as u64);
+    put(rt, b" ");
+    put_decimal(rt, place as u64);
+    put(rt, b"\n");
 }
 
 fn hex_digit(n: u8) -> u8 {
@@ -39,92 +46,92 @@ fn hex_digit(n: u8) -> u8 {
     63
 }
 
-fn hex_byte(b: u8) {
+fn hex_byte(rt: &HostRuntime, b: u8) {
     let pair = [hex_digit(b / 16), hex_digit(b % 16)];
-    io::write_all(STDOUT_FILENO, &pair);
+    put(rt, &pair);
 }
 
-fn hex(s: &[u8]) {
+fn hex(rt: &HostRuntime, s: &[u8]) {
     for i in 0..s.len() {
-        hex_byte(s[i]);
+        hex_byte(rt, s[i]);
     }
 }
 
-fn signed(z: i64) {
+fn signed(rt: &HostRuntime, z: i64) {
     if z < 0 {
-        io::write_all(STDOUT_FILENO, b"-");
+        put(rt, b"-");
         let k = (-1 - z) as u64;
-        io::print_decimal(STDOUT_FILENO, k + 1);
+        put_decimal(rt, k + 1);
         return;
     }
-    io::print_decimal(STDOUT_FILENO, z as u64);
+    put_decimal(rt, z as u64);
 }
 
 // The longest content that is printed.
 const LONGEST: usize = 4096;
 
 // A string's content: its length and its bytes in hex.
-fn content(token: &[u8]) {
+fn content(rt: &HostRuntime, token: &[u8]) {
     let mut out = [0u8; LONGEST];
     match lexer::token::put_token(text::switches::present(), token, &mut out) {
         literals::content::Written::Bytes(n) => {
-            io::print_decimal(STDOUT_FILENO, n as u64);
-            io::write_all(STDOUT_FILENO, b":");
+            put_decimal(rt, n as u64);
+            put(rt, b":");
             if n <= LONGEST {
-                hex(&out[..n]);
+                hex(rt, &out[..n]);
             }
         }
         literals::content::Written::Refused => {
-            io::write_all(STDOUT_FILENO, b"no content");
+            put(rt, b"no content");
         }
         literals::content::Written::NoRoom => {
-            io::write_all(STDOUT_FILENO, b"no room");
+            put(rt, b"no room");
         }
     }
 }
 
 // A token of this kind and these bytes, by its form and value.
-pub(crate) fn token(kind: TokenKind, bytes: &[u8]) {
+pub(crate) fn token(rt: &HostRuntime, kind: TokenKind, bytes: &[u8]) {
     match kind {
         TokenKind::Mark(_) => {
-            io::write_all(STDOUT_FILENO, b"mark ");
-            io::write_all(STDOUT_FILENO, bytes);
+            put(rt, b"mark ");
+            put(rt, bytes);
         }
         TokenKind::Word => {
-            io::write_all(STDOUT_FILENO, b"word ");
-            io::write_all(STDOUT_FILENO, bytes);
+            put(rt, b"word ");
+            put(rt, bytes);
         }
         TokenKind::Text(_) => {
-            io::write_all(STDOUT_FILENO, b"text ");
-            content(bytes);
+            put(rt, b"text ");
+            content(rt, bytes);
         }
         TokenKind::Bytes(_) => {
-            io::write_all(STDOUT_FILENO, b"bytes ");
-            content(bytes);
+            put(rt, b"bytes ");
+            content(rt, bytes);
         }
         TokenKind::Integer(z) => {
-            io::write_all(STDOUT_FILENO, b"integer ");
-            signed(z);
+            put(rt, b"integer ");
+            signed(rt, z);
         }
-        TokenKind::Decimal { minus, m, p } => decimal(minus, m, p),
+        TokenKind::Decimal { minus, m, p } => decimal(rt, minus, m, p),
     }
 }
 
-fn decimal(minus: bool, m: u64, p: i64) {
+fn decimal(rt: &HostRuntime, minus: bool, m: u64, p: i64) {
     if minus {
-        io::write_all(STDOUT_FILENO, b"decimal - ");
+        put(rt, b"decimal - ");
     } else {
-        io::write_all(STDOUT_FILENO, b"decimal + ");
+        put(rt, b"decimal + ");
     }
-    io::print_decimal(STDOUT_FILENO, m);
-    io::write_all(STDOUT_FILENO, b" ");
-    signed(p);
+    put_decimal(rt, m);
+    put(rt, b" ");
+    signed(rt, p);
 }
 
-pub(crate) fn places(start: usize, end: usize) {
-    io::write_all(STDOUT_FILENO, b" ");
-    io::print_decimal(STDOUT_FILENO, start as u64);
-    io::write_all(STDOUT_FILENO, b" ");
-    io::print_decimal(STDOUT_FILENO, end as u64);
-    io::write_all(STDOUT_FILENO, b", ");
+pub(crate) fn places(rt: &HostRuntime, start: usize, end: usize) {
+    put(rt, b" ");
+    put_decimal(rt, start as u64);
+    put(rt, b" ");
+    put_decimal(rt, end as u64);
+    put(rt, b", ");
 }

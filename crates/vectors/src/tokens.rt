@@ -1,7 +1,7 @@
 // The tokens of a text, one after the other.
 use lexer::item::{Next, next_token};
 
-pub(crate) fn tokens(text: &[u8]) {
+pub(crate) fn tokens(rt: &HostRuntime, text: &[u8]) {
     let sw = text::switches::present();
     let mut at = 0;
     while at <= text.len() {
@@ -10,16 +10,16 @@ pub(crate) fn tokens(text: &[u8]) {
                 let kind = token.kind;
                 let start = token.span.start;
                 let stop = token.span.stop;
-                super::show::token(kind, &text[start..stop]);
-                super::show::places(start, stop);
+                super::show::token(rt, kind, &text[start..stop]);
+                super::show::places(rt, start, stop);
                 at = stop;
             }
             Next::End(place) => {
-                super::show::end(place);
+                super::show::end(rt, place);
                 return;
             }
             Next::Refused(refusal) => {
-                super::show::refused(refusal.number, refusal.place);
+                super::show::refused(rt, refusal.number, refusal.place);
                 return;
             }
         }
