@@ -1,0 +1,16 @@
+use native.Mathlib.Omega.{arith}
+use Prim.Native.Nat.{◌-◌}
+use lib.ListN.{length-set}
+use Rattle.vectors.proofs.plain.Goals as goal
+
+pub shape_of-out-then-out-k : goal.shape_of-out-then-out-k
+shape_of-out-then-out-k c = c.loop-i.invariant
+
+pub loop-i-preserved-then-b-ne126 : goal.loop-i-preserved-then-b-ne126
+loop-i-preserved-then-b-ne126 c = simp length-set (omega arith)
+
+pub loop-i-preserved : goal.loop-i-preserved
+loop-i-preserved c = simp length-set (omega arith)
+
+pub shape_of-out : goal.shape_of-out
+shape_of-out c = c.loop-i.invariant
