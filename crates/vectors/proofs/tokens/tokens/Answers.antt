@@ -1,6 +1,5 @@
 use native.Mathlib.Omega.{arith}
 use mathlib.Core.Path.{sym, ◌∙◌}
-use Prim.Native.Nat.{◌-◌}
 use Rattle.lexer.proofs.NextLaws.{next_ahead}
 use Rattle.vectors.proofs.tokens.tokens.Goals as goal
 
