@@ -2,7 +2,7 @@
 //!
 //! It is looked for in the folder that `DUPER_LIB_DIR` names, then in
 //! `target/staticlib` of the repository root, two levels up. If it is in
-//! neither, `rt staticlib duper` is run in the repository root.
+//! neither, `tools/archive` of the repository makes it.
 
 use std::env;
 use std::path::{Path, PathBuf};
@@ -47,11 +47,12 @@ fn holds_archive(folder: &Path) -> bool {
 }
 
 fn make_archive(root: &Path) {
-    tell(&format!("{ARCHIVE} is missing; running `rt staticlib duper` in {}", root.display()));
-    match Command::new("rt").args(["staticlib", "duper"]).current_dir(root).status() {
+    let tool = root.join("tools").join("archive");
+    tell(&format!("{ARCHIVE} is missing; running {}", tool.display()));
+    match Command::new(&tool).status() {
         Ok(status) if status.success() => {}
-        Ok(status) => tell(&format!("`rt staticlib duper` ended with {status}")),
-        Err(error) => tell(&format!("`rt staticlib duper` could not be run: {error}")),
+        Ok(status) => tell(&format!("{} ended with {status}", tool.display())),
+        Err(error) => tell(&format!("{} could not be run: {error}", tool.display())),
     }
 }
 

@@ -243,6 +243,7 @@ fn after_item(sw: Switches, text: &[u8], kind: Kind, from: usize) -> After
 
 // A child's first token, or the end, of a container that has so many children, from where the last of them ends, or from the opening
 // bracket if there is none.
+#[inline(never)]
 pub(crate) fn next_child(sw: Switches, text: &[u8], kind: Kind, count: usize, from: usize) -> Item
     requires from_in_bounds { from ≤ length text.now }
     requires text_len_bound { length text.now ≤ max_text }
