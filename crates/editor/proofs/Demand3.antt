@@ -89,21 +89,21 @@ start_shared sw words b f =
 -- "Start with a text that reads and an empty journal."  `Start`, on buffers of any lengths that hold any bytes past the lengths in use.
 -- "Take any list of corrections and undos, refused ones included, with any node numbers and replacements."  `ks`, any list of `Call`.
 -- "Each call gets the text, journal and table buffers as the last one left them, and the lengths last result_of. Nobody else writes them
---   meanwhile."  `calls`, by `handedOn`.
--- "After every such list the text is the first text with the corrections in force made in order"  the `text` that `told` gives, `bookText`.
+--   meanwhile."  `calls`, by `handed_on`.
+-- "After every such list the text is the first text with the corrections in force made in order"  the `text` that `told` gives, `book_text`.
 -- "and the table that its last call left is that text's reading."  the `table` that `told` gives: of the last call, as of each before it.
--- "In force are the accepted ones not undone; an undo takes back the latest of them."  `bookAfter`.
+-- "In force are the accepted ones not undone; an undo takes back the latest of them."  `book_after`.
 -- "Each answer, and the journal in use, are those of document 01's plain book."  the `answer` and the `journal` that `told` gives.
--- "A correction is refused exactly when document 01 says"  the answer's number is `bookRefusal`; "an undo exactly when none is in force"
---   it is `bookNumber` (and `undo-refused` below). "Undoing all in force gives back the first text byte for byte."  `undo-all` below.
+-- "A correction is refused exactly when document 01 says"  the answer's number is `book_refusal`; "an undo exactly when none is in force"
+--   it is `book_number` (and `undo_refused` below). "Undoing all in force gives back the first text byte for byte."  `undo_all` below.
 --
 -- Document 01's sentences on the plain book:
 -- "is fed the first text, the lengths of the lent buffers and, for each call, whether it corrects or undoes, with a correction's node
 --   number and replacement; never an answer"  the arguments of `book`. "It keeps the corrections in force, each a node number and a
 --   replacement; at first none."  its list of `Correction`, at first `[]`.
 -- "Its text is the first text with these made in order: each replaces the bytes from word 2 to word 3 of its node, in the reading of the
---   text so far."  `bookText`, by `corrected`. "A correction's entry is the bytes it replaces, then the trailer above."  `entry_of`.
--- The three points on refusals:  `bookRefusal`, `bookNumber`, `bookAfter`. "Each answer is .. The journal in use is these entries in
+--   text so far."  `book_text`, by `corrected`. "A correction's entry is the bytes it replaces, then the trailer above."  `entry_of`.
+-- The three points on refusals:  `book_refusal`, `book_number`, `book_after`. "Each answer is .. The journal in use is these entries in
 --   order."  `told`. "All this is a single claim about the list, not one for each call."  one equation between two lists, with an element
 --   for each call.
 pub demand_3 : (sw : Switches) → Demand3 sw

@@ -93,7 +93,7 @@ module _ (sw : Switches) (room : Room) (first : List ℕ) where
 -- ---- the calls themselves, one after the other on the same buffers
 
 -- demand 3: "Each call gets the text, journal and table buffers as the last one left them, and the lengths last answered". Of the table a
--- call takes the count of its words alone, and every table that is left has as many (`table-law`).
+-- call takes the count of its words alone, and every table that is left has as many (`table_law`).
 unfoldable pub handed_on : Result → Lent
 handed_on r = lent_of r.lent.text r.lent.journal r.answer.used
 

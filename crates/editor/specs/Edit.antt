@@ -1,5 +1,5 @@
 -- Corrections and undo on the lent buffers (document 01, "Corrections"). The code answers with a struct of its own, src/change.rt:
--- `changeOf` gives it.
+-- `change_of` gives it.
 -- Assumes nothing.
 use Rattle.std.specs.Prelude.{ℕ, ◌+◌, ◌-◌, ◌*◌, ◌/◌, ◌%◌, min, max, ◌≡◌, Bool, not, cond, ◌||◌, List, [], ◌∷◌, ◌++◌, leb, ltb, eqb, length, take, drop, get_or, replicate}
 use Rattle.text.specs.declared.switches.Switches.{Switches}

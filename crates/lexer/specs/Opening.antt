@@ -1,5 +1,5 @@
 -- What opens a string, and where a token holds its content: what the code decides by the first bytes.
--- Nothing here has to be believed: `opening-item` (proofs/OpeningLaws.antt) shows that it says what `item` says, and `part-holds`
+-- Nothing here has to be believed: `opening_item` (proofs/OpeningLaws.antt) shows that it says what `item` says, and `part_holds`
 -- (proofs/PartLaws.antt) that a token's content is that of its part.
 -- Assumes nothing.
 use Rattle.std.specs.Prelude.{ℕ, ◌+◌, ◌-◌, Bool, true, false, cond, ◌&&◌, List, eqb, length, drop, get_or}

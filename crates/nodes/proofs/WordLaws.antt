@@ -1,5 +1,5 @@
 -- The words of a node: what stands in a table where a value stands as a node.
--- Only this file, and `children-words` in WalkLaws, open a row; the count of words a node has is `nodeWords`.
+-- Only this file, and `children_words` in WalkLaws, open a row; the count of words a node has is `node_words`.
 -- Assumes nothing.
 use mathlib.Core.Path.{◌≡◌, refl, ap, ◌∙◌}
 use Prim.Native.Nat.{ℕ, suc, ◌+◌, ◌*◌, ◌≤◌, ◌<◌}

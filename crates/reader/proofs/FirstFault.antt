@@ -3,9 +3,9 @@
 -- - "taken text": bytes that are UTF-8 and that the machine takes in some limits, so that limits are apart: `Could`.
 -- - "the first token that no taken text could have there": a taken text has the tokens before it, one that even begins with the same bytes up to
 --   their end; and no taken text has it behind them, with the same form at the same place: `First`.
--- - "7 is at": a text that is refused with 7 is refused at the start of such a token, or at its length if it ends early: `seven-first`.
+-- - "7 is at": a text that is refused with 7 is refused at the start of such a token, or at its length if it ends early: `seven_first`.
 -- - And at such a token a text is refused with 7, unless a limit (9, 10) value-refused its reading; "doubled keys apart": with 8, if the token's content is
---   among the keys of the innermost object: `first-seven`.
+--   among the keys of the innermost object: `first_seven`.
 -- Assumes nothing.
 use mathlib.Core.Path.{◌≡◌, refl, sym, ap, ◌∙◌, subst}
 use Prim.Native.Nat.{ℕ, suc, ◌≤◌}

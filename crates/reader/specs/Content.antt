@@ -1,4 +1,4 @@
--- The content call (document 01, "Content of a string"). The code answers with an enum of its own, src/content.rt: `contentGiven` gives it.
+-- The content call (document 01, "Content of a string"). The code answers with an enum of its own, src/content.rt: `content_given` gives it.
 -- Assumes nothing.
 use Rattle.std.specs.Prelude.{ℕ, ◌-◌, Bool, cond, ◌&&◌, List, ◌++◌, leb, length, take, drop}
 use Rattle.std.proofs.Math.Option.{Option, none, some}

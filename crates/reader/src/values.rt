@@ -202,7 +202,7 @@ fn put_branch(
 // ---- the cycle
 
 // The value that is due, by its first token.
-#[cycle(read_container_read_identifier_read_value)]
+#[cycle(value)]
 pub(crate) fn read_value(
     rules: Rules,
     text: &[u8],
@@ -229,7 +229,7 @@ pub(crate) fn read_value(
 
 // The object, array or tuple that this bracket opens. A duplicate key is not refused at the key but where the container ends or where
 // anything in it is refused, so that its keys are looked through once.
-#[cycle(read_container_read_identifier_read_value)]
+#[cycle(value)]
 fn read_container(
     rules: Rules,
     text: &[u8],
@@ -282,7 +282,7 @@ fn read_container(
 }
 
 // The identifier with this name, and the value in its bracket.
-#[cycle(read_container_read_identifier_read_value)]
+#[cycle(value)]
 fn read_identifier(rules: Rules, text: &[u8], table: &mut [u32], due: Due, name: Span) -> Progress
     requires ready { Ready rules.limits table.old due }
     requires placed { Placed text.now name }

@@ -125,7 +125,7 @@ module _ (b : ℕ) (high : 128 ≤ b) where
       (λ _. cond_both Is (is "+" b) (λ t. absurd (not_byte 43 (omega arith) t))
       (λ _. refl))))))))))
 
--- ---- bytes by the numbers of their classes: a test at each of the 256 bytes, and `class-high` above them
+-- ---- bytes by the numbers of their classes: a test at each of the 256 bytes, and `class_high` above them
 
 every_byte : (f : ℕ → Bool) → T (every (λ b x. f b) 0 (replicate 256 0)) → (b : ℕ) → b < 256 → T (f b)
 every_byte f t b h = let l = length-replicate {A = ℕ} 256 0 in at (λ b x. f b) (replicate 256 0) t b (omega arith)

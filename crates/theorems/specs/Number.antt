@@ -1,8 +1,8 @@
 -- Numbers by their grammar, in the papers' own words and apart from the machine that reads them: which bytes are a number and what it means,
 -- with the exponents of Req 02; that leading zeros of an exponent change nothing; and both on numbers that are worked out by hand.
--- Shared with the machine are the tests of a byte and the value of a digit (`isSign`, `isE`, `is`, `between`, `isDigitIn`, `digitValue`),
--- `signedBy`, and the ranges (`asInteger`, `asDecimal`).
--- By its contract `number_of` (literals/src/number.rt) answers `number`, and a number in a text means `number` of its bytes (`numberItem`
+-- Shared with the machine are the tests of a byte and the value of a digit (`is_sign`, `is_e`, `is`, `between`, `is_digit_in`, `digit_value`),
+-- `signed_by`, and the ranges (`as_integer`, `as_decimal`).
+-- By its contract `number_of` (literals/src/number.rt) answers `number`, and a number in a text means `number` of its bytes (`number_item`
 -- in lexer/specs/Token.antt).
 -- Assumes nothing.
 use Rattle.std.specs.Prelude.{◌≡◌, ℕ, suc, ◌+◌, ◌*◌, Bool, true, false, List, [], ◌∷◌, ◌++◌, replicate, ℤ, pos, negsuc, neg_ℤ, ◌+ℤ◌}

@@ -1,6 +1,6 @@
 -- The UTF-8 check: what it answers is the longest valid front; its answer and its count of eights are those of the walk that Req 06 speaks
 -- of; and both on bytes that are worked out by hand. By its contract `check_utf8` (text/src/utf8.rt) answers these two numbers. What is UTF-8
--- is `isUtf8` throughout.
+-- is `is_utf8` throughout.
 -- Assumes nothing.
 use Rattle.std.specs.Prelude.{◌≡◌, ℕ, ◌+◌, ◌<◌, ◌≤◌, true, false, List, [], ◌∷◌, ◌++◌, length, take, drop, replicate}
 use Rattle.text.specs.Utf8.{utf8, is_utf8, whole_front, plain_eight, plain_eights}

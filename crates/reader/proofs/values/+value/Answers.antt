@@ -11,7 +11,7 @@ use Rattle.reader.proofs.ItemRun.{mark_at, mark_refused}
 use Rattle.reader.proofs.BodyRun.{read_is, value_refused, due_as, begins_as, value_is, last_is, item_refused, item_refused_after, fresh_read, fresh_refused, fresh_ready, body_value, body_last, body_keys, body_child_keys, body_item_refused, body_field_refused, body_child_refused, body_ended, may_open_law, open_node, open_refused, no_children_first, body_start}
 use Rattle.reader.proofs.ValueRun.{begun_as, leaf_read, nothing_refused, named_ready, name_twice, name_full, name_not, name_refused, name_shut_not, name_read}
 use Prim.Native.Nat.{◌<◌}
-use Rattle.reader.proofs.values.+read_container_read_identifier_read_value.Goals as goal
+use Rattle.reader.proofs.values.+value.Goals as goal
 
 pub read_container-returns-then-number-ne0 : goal.read_container-returns-then-number-ne0
 read_container-returns-then-number-ne0 t c =

@@ -8,7 +8,7 @@ use Rattle.reader.specs.Syntax.{container}
 use Rattle.reader.specs.Internal.Values.{label_of, opened, ChildAt}
 use Rattle.reader.proofs.BodyRun.{Within}
 use Prim.Native.Nat.{ℕ}
-use Rattle.reader.proofs.values.+read_container_read_identifier_read_value.Given as goal
+use Rattle.reader.proofs.values.+value.Given as goal
 
 abbrev pub invariant-read_container-loop-item : goal.invariant-read_container-loop-item
 invariant-read_container-loop-item l = (ts : Forest) × (ks : List (List ℕ)) × (l.children.first ≡ l.due.spot.node + 1) × Within l.rules.sw l.rules.limits l.text l.kind (label_of l.due.label) (opened l.rules.sw l.rules.limits l.text l.place l.initial.from l.due.fresh l.due.any (label_of l.due.label) l.due.spot.node (container l.kind)) l.place l.due.spot.depth l.due.spot.node l.initial.table ts ks l.from l.children.next l.children.count l.table × ChildAt l.rules.sw l.text l.kind l.children.count l.from l.item
