@@ -8,6 +8,9 @@ use crate::decoder::{Body, Decoder, decode_step, start_of};
 use text::few::{few_len, put_few};
 use text::switches::Switches;
 
+// What opens an escape.
+const BACKSLASH: u8 = b'\\';
+
 // Whether a byte stands for itself in this state, and leaves the decoder in it, so far as it is printable ASCII.
 pub(crate) fn is_own_byte(state: Decoder, b: u8) -> bool
     ensures { OwnByteIf state b result }
@@ -18,7 +21,7 @@ pub(crate) fn is_own_byte(state: Decoder, b: u8) -> bool
     if b'~' < b {
         return false;
     }
-    if b == b'\\' {
+    if b == BACKSLASH {
         return false;
     }
     match state {

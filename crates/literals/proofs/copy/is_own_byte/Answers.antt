@@ -8,11 +8,11 @@ returns-then-b-lt32 c = own_not _ _
 pub returns-then-b-gt126 : goal.returns-then-b-gt126
 returns-then-b-gt126 c = own_not _ _
 
-pub returns-then-b-eq92 : goal.returns-then-b-eq92
-returns-then-b-eq92 c = own_not _ _
+pub returns-then-b-eq-BACKSLASH : goal.returns-then-b-eq-BACKSLASH
+returns-then-b-eq-BACKSLASH c = own_not _ _
 
 pub returns-in-Plain : goal.returns-in-Plain
-returns-in-Plain c = own_quoted (omega arith) (omega arith) c.if-b-eq92.false c.in-Plain.is
+returns-in-Plain c = own_quoted (omega arith) (omega arith) c.if-b-eq-BACKSLASH.false c.in-Plain.is
 
 pub returns-in-Escape : goal.returns-in-Escape
 returns-in-Escape c = own_not _ _
@@ -21,10 +21,10 @@ pub returns-in-Hex : goal.returns-in-Hex
 returns-in-Hex c = own_not _ _
 
 pub returns-in-Verbatim : goal.returns-in-Verbatim
-returns-in-Verbatim c = own_raw (omega arith) (omega arith) c.if-b-eq92.false c.in-Verbatim.is
+returns-in-Verbatim c = own_raw (omega arith) (omega arith) c.if-b-eq-BACKSLASH.false c.in-Verbatim.is
 
 pub returns-in-Letters : goal.returns-in-Letters
-returns-in-Letters c = own_word_law (omega arith) (omega arith) c.if-b-eq92.false c.in-Letters.is
+returns-in-Letters c = own_word_law (omega arith) (omega arith) c.if-b-eq-BACKSLASH.false c.in-Letters.is
 
 pub returns-in-Digits : goal.returns-in-Digits
 returns-in-Digits c = own_not _ _
