@@ -39,15 +39,18 @@ pub fn has_argument(rt: &HostRuntime, i: usize) -> bool {
     }
 }
 
-// Argument `i`, at the buffer's front: its length. Where it is longer than the buffer, or there is none, standard error says so of
-// `what`, and the answer is `None`.
+// The number that Linux has for a name that is too long, ENAMETOOLONG.
+const NAME_TOO_LONG: i32 = 36;
+
+// Argument `i`, which is there, at the buffer's front: its length. Where it is longer than the buffer, standard error says so of `what`,
+// and the answer is `None`.
 pub fn argument(rt: &HostRuntime, i: usize, what: &[u8], buf: &mut [u8]) -> Option<usize>
     ensures { MatchOption result (Unit {0}) (λ n. IsPrefixLen n buf.new) }
 {
     match rt.arg(i, buf) {
         Ok(n) => Some(n),
         Err(_) => {
-            fail(rt, what, Error::from(ErrorKind::InvalidFilename));
+            fail(rt, what, Error::from_raw_os_error(NAME_TOO_LONG));
             None
         }
     }

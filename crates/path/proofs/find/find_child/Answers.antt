@@ -8,8 +8,8 @@ returns-then-kind-eq-OBJECT c = child_object _ _ _ _ _ _ c.kind_of-kind.ensures 
 pub returns-then-kind-eq-ARRAY : goal.returns-then-kind-eq-ARRAY
 returns-then-kind-eq-ARRAY c = child_array _ _ _ _ _ _ c.kind_of-kind.ensures _ (omega arith) (omega arith) c.find_indexed.ensures
 
-pub returns-then-kind-eq-TUPLE : goal.returns-then-kind-eq-TUPLE
-returns-then-kind-eq-TUPLE c = child_array _ _ _ _ _ _ c.kind_of-kind.ensures _ (omega arith) (omega arith) c.find_indexed-then-kind-eq-TUPLE.ensures
+pub returns-then-kind-eq-INDEXED_TOO : goal.returns-then-kind-eq-INDEXED_TOO
+returns-then-kind-eq-INDEXED_TOO c = child_array _ _ _ _ _ _ c.kind_of-kind.ensures _ (omega arith) (omega arith) c.find_indexed-then-kind-eq-INDEXED_TOO.ensures
 
 pub returns : goal.returns
-returns c = child_other _ _ _ _ _ _ c.kind_of-kind.ensures c.if-kind-eq-OBJECT.false c.if-kind-eq-ARRAY.false c.if-kind-eq-TUPLE.false
+returns c = child_other _ _ _ _ _ _ c.kind_of-kind.ensures c.if-kind-eq-OBJECT.false c.if-kind-eq-ARRAY.false c.if-kind-eq-INDEXED_TOO.false

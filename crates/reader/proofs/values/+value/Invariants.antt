@@ -1,13 +1,11 @@
-use Rattle.std.proofs.Common.{◌*◌, ◌-◌, ◌+◌, length}
 use mathlib.Core.Path.{◌≡◌}
 use mathlib.Core.List.{List}
-use Prim.Native.Nat.{ℕ, ◌+◌, ◌-◌}
+use Prim.Native.Nat.{ℕ, ◌+◌, ◌-◌, ◌*◌}
 use lib.ListN.{length}
 use Rattle.reader.specs.Tree.{Forest}
 use Rattle.reader.specs.Syntax.{container}
 use Rattle.reader.specs.Internal.Values.{label_of, opened, ChildAt}
 use Rattle.reader.proofs.BodyRun.{Within}
-use Prim.Native.Nat.{ℕ}
 use Rattle.reader.proofs.values.+value.Given as goal
 
 abbrev pub invariant-read_container-loop-item : goal.invariant-read_container-loop-item

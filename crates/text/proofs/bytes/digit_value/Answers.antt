@@ -14,29 +14,24 @@ returns-then-b-le57 c = rw (le-leb 48 _ c.if-b-lt48.false, le-leb _ 57 c.if-b-le
 pub returns-then-b-lt65 : goal.returns-then-b-lt65
 unfolding digit_value
 returns-then-b-lt65 c =
-    let the-args = c.args in
-    rw (le-leb 48 the-args.b (omega arith), lt-leb _ 57 c.if-b-le57.false, lt-leb 65 _ c.if-b-lt65.true, lt-leb 97 the-args.b (omega arith))
+    rw (le-leb 48 c.args.b (omega arith), lt-leb _ 57 c.if-b-le57.false, lt-leb 65 _ c.if-b-lt65.true, lt-leb 97 c.args.b (omega arith))
 
 pub returns-then-b-le70 : goal.returns-then-b-le70
 unfolding digit_value
 returns-then-b-le70 c =
-    let the-args = c.args in
-    rw (le-leb 48 the-args.b (omega arith), lt-leb the-args.b 57 (omega arith), le-leb 65 _ c.if-b-lt65.false, le-leb _ 70 c.if-b-le70.true)
+    rw (le-leb 48 c.args.b (omega arith), lt-leb c.args.b 57 (omega arith), le-leb 65 _ c.if-b-lt65.false, le-leb _ 70 c.if-b-le70.true)
 
 pub returns-then-b-lt97 : goal.returns-then-b-lt97
 unfolding digit_value
 returns-then-b-lt97 c =
-    let the-args = c.args in
-    rw (le-leb 48 the-args.b (omega arith), lt-leb the-args.b 57 (omega arith), le-leb 65 the-args.b (omega arith), lt-leb _ 70 c.if-b-le70.false, lt-leb 97 _ c.if-b-lt97.true)
+    rw (le-leb 48 c.args.b (omega arith), lt-leb c.args.b 57 (omega arith), le-leb 65 c.args.b (omega arith), lt-leb _ 70 c.if-b-le70.false, lt-leb 97 _ c.if-b-lt97.true)
 
 pub returns-then-b-le102 : goal.returns-then-b-le102
 unfolding digit_value
 returns-then-b-le102 c =
-    let the-args = c.args in
-    rw (le-leb 48 the-args.b (omega arith), lt-leb the-args.b 57 (omega arith), le-leb 65 the-args.b (omega arith), lt-leb the-args.b 70 (omega arith), le-leb 97 _ c.if-b-lt97.false, le-leb _ 102 c.if-b-le102.true)
+    rw (le-leb 48 c.args.b (omega arith), lt-leb c.args.b 57 (omega arith), le-leb 65 c.args.b (omega arith), lt-leb c.args.b 70 (omega arith), le-leb 97 _ c.if-b-lt97.false, le-leb _ 102 c.if-b-le102.true)
 
 pub returns : goal.returns
 unfolding digit_value
 returns c =
-    let the-args = c.args in
-    rw (le-leb 48 the-args.b (omega arith), lt-leb the-args.b 57 (omega arith), le-leb 65 the-args.b (omega arith), lt-leb the-args.b 70 (omega arith), le-leb 97 the-args.b (omega arith), lt-leb _ 102 c.if-b-le102.false)
+    rw (le-leb 48 c.args.b (omega arith), lt-leb c.args.b 57 (omega arith), le-leb 65 c.args.b (omega arith), lt-leb c.args.b 70 (omega arith), le-leb 97 c.args.b (omega arith), lt-leb _ 102 c.if-b-le102.false)

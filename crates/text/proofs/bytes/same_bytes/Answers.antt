@@ -10,16 +10,12 @@ loop-i-init c = (omega arith, omega arith, ends_start c.args.a.now c.args.b.now 
 
 pub returns-then-a-i : goal.returns-then-a-i
 returns-then-a-i c =
-    let the-args = c.args in
-    differ_at the-args.a.now the-args.b.now _ c.if-a-i.true
+    differ_at c.args.a.now c.args.b.now _ c.if-a-i.true
 
 pub loop-i-preserved : goal.loop-i-preserved
 loop-i-preserved c =
-    let the-args = c.args in
-    let the-loop = c.loop-i in
-    (omega arith, omega arith, ends_grow the-args.a.now the-args.b.now the-loop.i _ (omega arith) (omega arith) (omega arith) c.if-a-i.false the-loop.invariant.2)
+    (omega arith, omega arith, ends_grow c.args.a.now c.args.b.now c.loop-i.i _ (omega arith) (omega arith) (omega arith) c.if-a-i.false c.loop-i.invariant.2)
 
 pub returns : goal.returns
 returns c =
-    let the-args = c.args in
-    same_all the-args.a.now the-args.b.now c.loop-i.i (omega arith) c.loop-i.invariant.2
+    same_all c.args.a.now c.args.b.now c.loop-i.i (omega arith) c.loop-i.invariant.2

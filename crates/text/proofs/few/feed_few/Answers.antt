@@ -21,8 +21,7 @@ utf8_step-three-requires c = let p = read_next c.args.u _ _ c.utf8_step-one-in-F
 
 pub utf8_step-requires-in-Four : goal.utf8_step-requires-in-Four
 utf8_step-requires-in-Four c =
-    let the-utf8-step7 = c.utf8_step-one-in-Four in
-    let p = read_next c.args.u _ _ the-utf8-step7.ensures in let q = read_next the-utf8-step7.result _ _ c.utf8_step-two-in-Four.ensures in let r = read_next c.utf8_step-two-in-Four.result _ _ c.utf8_step-three.ensures in omega arith
+    let p = read_next c.args.u _ _ c.utf8_step-one-in-Four.ensures in let q = read_next c.utf8_step-one-in-Four.result _ _ c.utf8_step-two-in-Four.ensures in let r = read_next c.utf8_step-two-in-Four.result _ _ c.utf8_step-three.ensures in omega arith
 
 pub returns-in-Zero : goal.returns-in-Zero
 unfolding feed listed

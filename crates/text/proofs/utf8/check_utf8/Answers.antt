@@ -20,15 +20,12 @@ loop-i-smaller-then-plain_eight c = let l = eight_long c.args.s.now c.loop-i.i (
 
 pub loop-i-preserved-then-plain_eight : goal.loop-i-preserved-then-plain_eight
 loop-i-preserved-then-plain_eight c =
-    let the-loop = c.loop-i in
-    checks_eight c.args.s.now the-loop.i the-loop.eights the-loop.invariant (sym c.plain_eight.ensures ∙ c.if-plain_eight.true)
+    checks_eight c.args.s.now c.loop-i.i c.loop-i.eights c.loop-i.invariant (sym c.plain_eight.ensures ∙ c.if-plain_eight.true)
 
 pub returns-then-end-i : goal.returns-then-end-i
 returns-then-end-i c =
-    let the-args = c.args in
-    let the-loop = c.loop-i in
-    checks_stop the-args.s.now the-loop.i the-loop.eights _ the-loop.invariant
-    (passed the-args.s.now the-loop.i _ (omega arith) (sym c.plain_eight.ensures ∙ c.if-plain_eight.false) c.character_end-end.ensures) c.if-end-i.true
+    checks_stop c.args.s.now c.loop-i.i c.loop-i.eights _ c.loop-i.invariant
+    (passed c.args.s.now c.loop-i.i _ (omega arith) (sym c.plain_eight.ensures ∙ c.if-plain_eight.false) c.character_end-end.ensures) c.if-end-i.true
 
 pub loop-i-smaller : goal.loop-i-smaller
 loop-i-smaller c = let p = passed c.args.s.now c.loop-i.i _ (omega arith) (sym c.plain_eight.ensures ∙ c.if-plain_eight.false) c.character_end-end.ensures in
@@ -39,10 +36,8 @@ loop-i-smaller c = let p = passed c.args.s.now c.loop-i.i _ (omega arith) (sym c
 
 pub loop-i-preserved : goal.loop-i-preserved
 loop-i-preserved c =
-    let the-args = c.args in
-    let the-loop = c.loop-i in
-    checks_passed the-args.s.now the-loop.i the-loop.eights _ the-loop.invariant
-    (passed the-args.s.now the-loop.i _ (omega arith) (sym c.plain_eight.ensures ∙ c.if-plain_eight.false) c.character_end-end.ensures)
+    checks_passed c.args.s.now c.loop-i.i c.loop-i.eights _ c.loop-i.invariant
+    (passed c.args.s.now c.loop-i.i _ (omega arith) (sym c.plain_eight.ensures ∙ c.if-plain_eight.false) c.character_end-end.ensures)
 
 pub returns : goal.returns
 returns c = checks_end c.args.s.now c.loop-i.i c.loop-i.eights c.loop-i.invariant (omega arith)

@@ -7,5 +7,4 @@ returns-then-s-i-lt8 c = eight_short c.args.s.now c.args.i (omega arith)
 
 pub returns : goal.returns
 returns c =
-    let the-args = c.args in
-    eight_or the-args.s.now the-args.i (omega arith)
+    eight_or c.args.s.now c.args.i (omega arith)
