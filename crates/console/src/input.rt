@@ -1,5 +1,5 @@
 // The text's bytes, from a descriptor or a file; and the program's arguments.
-ghost use Rattle.std.specs.Prelude.{◌≡◌, false, MatchOption};
+ghost use Rattle.std.specs.Prelude.{MatchOption};
 ghost use Rattle.io.specs.Counts.{IsPrefixLen};
 
 use std::env::FillError;
@@ -10,13 +10,6 @@ use std::{fs, str};
 // Room for a text. It has at most 65,536 bytes: one byte more shows that it is too long, and what comes after that byte isn't
 // read.
 pub const TEXT_ROOM: usize = 65537;
-
-// How many bytes came, and whether they are all: false after a read that failed.
-#[derive(Clone, Copy)]
-pub struct Filled {
-    pub is_read: bool,
-    pub count: usize,
-}
 
 // What failed, as the caller names it, and why, as a line on standard error. Where it can't be written, there is nowhere left to
 // say so.
@@ -33,10 +26,7 @@ pub fn say_usage(rt: &HostRuntime, usage: &[u8]) {
 // Whether the program was given argument `i`. Argument 0 is its name.
 pub fn has_argument(rt: &HostRuntime, i: usize) -> bool {
     let mut room = [0u8; 1];
-    match rt.arg(i, &mut room) {
-        Err(FillError::NotPresent) => false,
-        _ => true,
-    }
+    !matches!(rt.arg(i, &mut room), Err(FillError::NotPresent))
 }
 
 // The number that Linux has for a name that is too long, ENAMETOOLONG.
@@ -56,59 +46,44 @@ pub fn argument(rt: &HostRuntime, i: usize, what: &[u8], buf: &mut [u8]) -> Opti
     }
 }
 
-// What a failed read gives: nothing of it counts.
-fn unread() -> Filled
-    ensures { (result.is_read ≡ false) × (result.count ≡ 0) }
-{
-    Filled {
-        is_read: false,
-        count: 0,
-    }
-}
-
-// Reads until buf is full or the input ends. A read that fails is told from the end of the input, so that an unreadable file
-// isn't taken for an empty text; it is said on standard error, where `name` is what was read.
-pub fn fill_from<R: Read>(rt: &HostRuntime, from: &mut R, name: &[u8], buf: &mut [u8]) -> Filled
-    ensures { IsPrefixLen result.count buf.new }
+// Reads until buf is full or the input ends: how many bytes came. A read that fails is told from the end of the input, so that an
+// unreadable file isn't taken for an empty text: the answer is `None`, and it is said on standard error, where `name` is what was read.
+pub fn fill_from<R: Read>(
+    rt: &HostRuntime,
+    from: &mut R,
+    name: &[u8],
+    buf: &mut [u8],
+) -> Option<usize>
+    ensures { MatchOption result (Unit {0}) (λ n. IsPrefixLen n buf.new) }
 {
     let mut n = 0;
+    // kept: how far a turn goes is what `read` says, and the library's methods that read to the end fill a Vec: memory is fixed here.
     while n < buf.len() {
         match from.read(&mut buf[n..]) {
-            Ok(0) => {
-                return Filled {
-                    is_read: true,
-                    count: n,
-                };
-            }
+            Ok(0) => return Some(n),
             Ok(more) => n += more,
             Err(error) => {
                 fail(rt, name, error);
-                return Filled {
-                    is_read: false,
-                    count: n,
-                };
+                return None;
             }
         }
     }
-    Filled {
-        is_read: true,
-        count: n,
-    }
+    Some(n)
 }
 
 // The same from the file of this name. A file that can't be opened counts as a read that failed.
-fn fill_file(rt: &HostRuntime, name: &[u8], buf: &mut [u8]) -> Filled
-    ensures { IsPrefixLen result.count buf.new }
+fn fill_file(rt: &HostRuntime, name: &[u8], buf: &mut [u8]) -> Option<usize>
+    ensures { MatchOption result (Unit {0}) (λ n. IsPrefixLen n buf.new) }
 {
     let Ok(path) = str::from_utf8(name) else {
         fail(rt, name, Error::from(ErrorKind::InvalidFilename));
-        return unread();
+        return None;
     };
     match fs::open(rt, path) {
         Ok(mut file) => fill_from(rt, &mut file, name, buf),
         Err(error) => {
             fail(rt, name, error);
-            unread()
+            None
         }
     }
 }
@@ -117,12 +92,24 @@ fn fill_file(rt: &HostRuntime, name: &[u8], buf: &mut [u8]) -> Filled
 const NAME_ROOM: usize = 4096;
 
 // The same from the file that argument `i` names.
-pub fn fill_named(rt: &HostRuntime, i: usize, buf: &mut [u8]) -> Filled
-    ensures { IsPrefixLen result.count buf.new }
+pub fn fill_named(rt: &HostRuntime, i: usize, buf: &mut [u8]) -> Option<usize>
+    ensures { MatchOption result (Unit {0}) (λ n. IsPrefixLen n buf.new) }
 {
     let mut name = [0u8; NAME_ROOM];
-    match argument(rt, i, b"the file's name", &mut name) {
-        Some(length) => fill_file(rt, &name[..length], buf),
-        None => unread(),
+    let length = argument(rt, i, b"the file's name", &mut name)?;
+    fill_file(rt, &name[..length], buf)
+}
+
+// A program with one argument, the name of a file: hands over the file's bytes. With none or more, standard error says how it is called.
+pub fn with_file<F: FnOnce(&HostRuntime, &[u8])>(rt: &HostRuntime, usage: &[u8], run: F)
+    requires { F.IsAlwaysCallable run }
+{
+    if !has_argument(rt, 1) || has_argument(rt, 2) {
+        say_usage(rt, usage);
+        return;
+    }
+    let mut buffer = [0u8; TEXT_ROOM];
+    if let Some(n) = fill_named(rt, 1, &mut buffer) {
+        run(rt, &buffer[..n]);
     }
 }

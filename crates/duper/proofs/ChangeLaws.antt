@@ -1,22 +1,20 @@
 -- A correction's or an undo's answer at the boundary: its place is small enough to be packed, and the code's answer has its number.
 -- Assumes nothing.
+use Rattle.std.specs.Prelude.{Ok, Err}
 use mathlib.Core.Path.{◌≡◌, refl, sym, ap, ◌∙◌, subst}
 use Prim.Native.Nat.{ℕ, ◌≤◌}
 use native.Mathlib.Omega.{arith}
 use mathlib.Core.Bool.{Bool, true, false, cond}
 use mathlib.Core.List.{List}
 use lib.Dec.{eqb}
-use Rattle.text.specs.declared.refusal.Refusal.{Refusal}
-use Rattle.text.specs.Refusal.{refusal}
+use Rattle.text.specs.Refusal.{Refusal, refusal}
 use Rattle.text.specs.declared.switches.Switches.{Switches}
 use Rattle.text.proofs.Choice.{cond_both}
 use Rattle.reader.specs.Syntax.{Outcome, taken, refused}
 use Rattle.reader.specs.Reading.{reading, max_text}
 use Rattle.reader.proofs.PlaceBound.{PlaceWithin, place_law}
-use Rattle.editor.specs.declared.change.Verdict.{Verdict}
-use Rattle.editor.specs.declared.change.Verdict.TheVariants as A
-use Rattle.editor.specs.declared.change.Change.{Change}
-use Rattle.editor.specs.Edit.{Lent, Report, Result, text_of, verdict_of, change_of, leaving, Shows, bad_length, length_refused, result_of, decided, once_read, correction_refusal, with_correction, correct, undo_refusal, with_undo, undo}
+use Rattle.std.specs.declared.result.Result as Rust
+use Rattle.editor.specs.Edit.{Lent, Report, Result, text_of, verdict_of, change_of, leaving, Shows, bad_length, length_refused, result_of, decided, once_read, correction_refusal, with_correction, correct, undo_refusal, with_undo, undo, Change}
 use Rattle.duper.specs.Numbers.{packed, change_number, change_words, crossing, crossed}
 use Rattle.duper.specs.Internal.{verdict_number, PlaceFits, words_of}
 
@@ -56,7 +54,7 @@ module _ (a : Report) where
   unfolding change_of verdict_of verdict_number change_number
   verdict_number_law = by (eqb a.number 0)
     where
-      by : (t : Bool) → verdict_number (cond t A.Done (A.Refused (refusal a.number a.place))) ≡ cond t 0 (packed (refusal a.number a.place))
+      by : (t : Bool) → verdict_number (cond t (Ok tt) (Err (refusal a.number a.place))) ≡ cond t 0 (packed (refusal a.number a.place))
       by true = refl
       by false = refl
 
@@ -78,12 +76,12 @@ change_crosses {result} {r} s e f =
 
 -- ---- what `tell` answers, by cases of the verdict
 
-module _ {v : Verdict} where
-  pub told_done : v ≡ A.Done → 0 ≡ verdict_number v
+module _ {v : Rust.Result Unit Refusal} where
+  pub told_done : v ≡ (Ok tt) → 0 ≡ verdict_number v
   unfolding verdict_number
   told_done e = sym (ap verdict_number e)
 
-  module _ {f : Refusal} (e : v ≡ A.Refused f) where
+  module _ {f : Refusal} (e : v ≡ Err f) where
     pub told_refused : packed f ≡ verdict_number v
     unfolding verdict_number
     told_refused = sym (ap verdict_number e)

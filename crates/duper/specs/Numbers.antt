@@ -1,19 +1,17 @@
 -- Answers as numbers: a reading's, that of a content call, those of a correction or an undo, that of a path, those of a summary and those of a
 -- salvage.
 -- Assumes nothing.
-use Rattle.std.specs.Prelude.{ℕ, ◌+◌, ◌*◌, ◌≡◌, cond, List, [], ◌∷◌, eqb, Float, length}
-use Rattle.text.specs.declared.refusal.Refusal.{Refusal}
-use Rattle.text.specs.Refusal.{refusal}
+use Rattle.std.specs.Prelude.{ℕ, ◌+◌, ◌*◌, ◌≡◌, cond, List, [], ◌∷◌, eqb, Float, length, Some, None, Ok, Err}
+use Rattle.text.specs.Refusal.{Refusal, refusal}
 use Rattle.reader.specs.Tree.{size}
 use Rattle.reader.specs.Syntax.{Outcome, taken, refused}
 use Rattle.reader.specs.Content as C
 use Rattle.editor.specs.Edit.{Report}
-use Rattle.path.specs.declared.find.Found.{Found}
-use Rattle.path.specs.declared.find.Found.TheVariants as F
+use Rattle.std.specs.declared.result.Result.{Result}
 use Rattle.summary.specs.declared.summary.Summary.{Summary}
-use Rattle.summary.specs.declared.summary.Summary.TheVariants as S
+use Rattle.std.specs.declared.option.Option as Rust
+use Rattle.summary.specs.declared.summary.Heights.{Heights}
 use Rattle.salvage.specs.declared.salvage.Salvaged.{Salvaged}
-use Rattle.salvage.specs.declared.salvage.Salvaged.TheVariants as A
 use Rattle.salvage.specs.Salvage.{SalvageResult}
 
 -- "refusal times 4294967296 plus ..": a refusal as one number, with its place
@@ -53,43 +51,45 @@ unfoldable pub crossed : Report → Crossed
 crossed a = crossing (change_number a) (change_words a)
 
 -- what a path leads to: "the node's number, or 23 and the number of the first step", packed as a reading's refusal and its place are
-unfoldable pub found_number : Found → ℕ
-found_number (F.At node) = node
-found_number (F.Refused f) = packed f
+unfoldable pub found_number : Result ℕ Refusal → ℕ
+found_number (Ok node) = node
+found_number (Err f) = packed f
 
 -- a summary: 0, or a refusal packed the same way
-unfoldable pub summary_number : Summary → ℕ
-summary_number (S.WithHeights counts heights) = 0
-summary_number (S.WithoutHeights counts) = 0
-summary_number (S.Refused f) = packed f
+unfoldable pub summary_number : Result Summary Refusal → ℕ
+summary_number (Ok a) = 0
+summary_number (Err f) = packed f
 
 -- the four counts that the call leaves where these were lent: "A refusal holds no counts or heights", so then they stay
-unfoldable pub summary_counts : Summary → (lent : List ℕ) → List ℕ
-summary_counts (S.WithHeights counts heights) lent = counts.measured ∷ counts.null ∷ counts.absent ∷ counts.unfit ∷ []
-summary_counts (S.WithoutHeights counts) lent = counts.measured ∷ counts.null ∷ counts.absent ∷ counts.unfit ∷ []
-summary_counts (S.Refused f) lent = lent
+unfoldable pub summary_counts : Result Summary Refusal → (lent : List ℕ) → List ℕ
+summary_counts (Ok a) lent = a.counts.measured ∷ a.counts.null ∷ a.counts.absent ∷ a.counts.unfit ∷ []
+summary_counts (Err f) lent = lent
 
 -- the "least, greatest and mean" likewise: "With none it holds no height at all", so then these stay too
-unfoldable pub summary_heights : Summary → (lent : List Float) → List Float
-summary_heights (S.WithHeights counts heights) lent = heights.least ∷ heights.greatest ∷ heights.mean ∷ []
-summary_heights (S.WithoutHeights counts) lent = lent
-summary_heights (S.Refused f) lent = lent
+unfoldable pub heights_or : Rust.Option Heights → (lent : List Float) → List Float
+heights_or (Some heights) lent = heights.least ∷ heights.greatest ∷ heights.mean ∷ []
+heights_or None lent = lent
+
+-- the same of a refusal
+unfoldable pub summary_heights : Result Summary Refusal → (lent : List Float) → List Float
+summary_heights (Ok a) lent = heights_or a.heights lent
+summary_heights (Err f) lent = lent
 
 -- what a summary shows at the boundary: its number, and what was lent for counts and heights
-pub record SummaryCrosses (result : Summary) (number : ℕ) (lent_counts counts : List ℕ) (lent_heights heights : List Float) : Type 0 where
+pub record SummaryCrosses (result : Result Summary Refusal) (number : ℕ) (lent_counts counts : List ℕ) (lent_heights heights : List Float) : Type 0 where
   pub number_is : number ≡ summary_number result
   pub counts_are : counts ≡ summary_counts result lent_counts
   pub heights_are : heights ≡ summary_heights result lent_heights
 
 -- a salvage: 0, or a refusal packed the same way
-unfoldable pub salvage_number : Salvaged → ℕ
-salvage_number (A.Written bytes lines) = 0
-salvage_number (A.Refused f) = packed f
+unfoldable pub salvage_number : Result Salvaged Refusal → ℕ
+salvage_number (Ok a) = 0
+salvage_number (Err f) = packed f
 
 -- "It answers the bytes written and the number of lines, 0 and 0 if refused"
-unfoldable pub salvage_words : Salvaged → List ℕ
-salvage_words (A.Written bytes lines) = bytes ∷ lines ∷ []
-salvage_words (A.Refused f) = 0 ∷ 0 ∷ []
+unfoldable pub salvage_words : Result Salvaged Refusal → List ℕ
+salvage_words (Ok a) = a.bytes ∷ a.lines ∷ []
+salvage_words (Err f) = 0 ∷ 0 ∷ []
 
 -- what a salvage shows at the boundary: its number, the two numbers beside it, and all that the output, the list and the table then hold
 pub record SalvageCrosses (result : SalvageResult) (number : ℕ) (answer out verdicts table : List ℕ) : Type 0 where

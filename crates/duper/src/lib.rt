@@ -2,23 +2,20 @@
 #![tactic(auto)]
 
 ghost use Rattle.std.specs.Prelude.{◌≡◌, [], ◌∷◌, ◌≤◌, length};
+ghost use Rattle.text.specs.Refusal.{told, told_by};
 ghost use Rattle.text.specs.Switches.{present_edition};
 ghost use Rattle.text.specs.Utf8.{utf8, whole_front, plain_eights};
 ghost use Rattle.reader.specs.Reading.{reading, table_of, max_text};
 ghost use Rattle.reader.specs.Content.{content_call, written};
-ghost use Rattle.editor.specs.Edit.{in_use, lent_of, leaving, Shows, correct, undo};
+ghost use Rattle.editor.specs.Edit.{in_use, lent_of, leaving, Shows, told_change, correct, undo};
 ghost use Rattle.path.specs.Path.{found};
 ghost use Rattle.summary.specs.Summary.{summary};
 ghost use Rattle.salvage.specs.Salvage.{salvage};
 ghost use Rattle.duper.specs.Numbers.{packed, content_number, read_number, crossing, crossed, found_number, SummaryCrosses, SalvageCrosses};
 ghost use Rattle.duper.specs.Internal.{verdict_number, PlaceFits, words_of};
 
-use editor::change::{Change, InUse, Verdict};
-use path::find::Found;
-use reader::content::Given;
-use reader::read::Reading;
+use editor::change::{Change, InUse};
 use salvage::salvage::Salvaged;
-use summary::summary::Summary;
 use text::refusal::Refusal;
 use text::utf8::check_utf8;
 
@@ -26,11 +23,12 @@ use text::utf8::check_utf8;
 const FACTOR: u64 = 4294967296;
 
 // A refusal as one number: its own times 4294967296, plus its place.
+#[tactic(auto, unfolding(crate::specs::Numbers::packed))]
 fn packed(refusal: Refusal) -> u64
     requires { refusal.place ≤ max_text }
-    ensures { result ≡ packed refusal }
+    ensures { result ≡ packed (told_by refusal) }
 {
-    refusal.number as u64 * FACTOR + refusal.place as u64
+    u64::from(refusal.reason.number()) * FACTOR + refusal.place as u64
 }
 
 // Checks bytes as UTF-8: the length of their longest front that is. `eights` is then how many times the check passed over eight bytes below
@@ -48,8 +46,8 @@ pub fn duper_read(text: &[u8], table: &mut [u32]) -> u64
     ensures { (result ≡ read_number (reading present_edition (length table.old) text.now)) × (table.new ≡ table_of (length table.old) (reading present_edition (length table.old) text.now)) }
 {
     match reader::read::read(text, table) {
-        Reading::Taken(nodes) => nodes as u64,
-        Reading::Refused(refusal) => packed(refusal),
+        Ok(nodes) => nodes as u64,
+        Err(refusal) => packed(refusal),
     }
 }
 
@@ -59,22 +57,22 @@ pub fn duper_content(text: &[u8], start: u64, end: u64, out: &mut [u8]) -> u64
     ensures { (result ≡ content_number (content_call present_edition start end text.now out.old)) × (out.new ≡ written (content_call present_edition start end text.now out.old) out.old) }
 {
     match reader::content::content(text, start as usize, end as usize, out) {
-        Given::Bytes(count) => count as u64,
-        Given::Refused(number) => packed(Refusal { number, place: 0 }),
+        Ok(count) => count as u64,
+        Err(reason) => packed(Refusal { reason, place: 0 }),
     }
 }
 
 // The refusal times 4294967296 plus its place, or 0; and the three numbers beside it, into `answer`.
 fn tell(change: Change, answer: &mut [u64; 3]) -> u64
-    requires { PlaceFits change.verdict }
-    ensures { (result ≡ verdict_number change.verdict) × (answer.new ≡ words_of change) }
+    requires { PlaceFits (told change.verdict) }
+    ensures { (result ≡ verdict_number (told change.verdict)) × (answer.new ≡ words_of (told_change change)) }
 {
     let used = change.used;
     *answer = [change.nodes as u64, used.text as u64, used.journal as u64];
     let verdict = change.verdict;
     match verdict {
-        Verdict::Done => 0,
-        Verdict::Refused(refusal) => packed(refusal),
+        Ok(()) => 0,
+        Err(refusal) => packed(refusal),
     }
 }
 
@@ -125,8 +123,8 @@ pub fn duper_find(text: &[u8], table: &mut [u32], path: &[u8]) -> u64
     ensures { (result ≡ found_number (found present_edition text.now path.now (reading present_edition (length table.old) text.now))) × (table.new ≡ table_of (length table.old) (reading present_edition (length table.old) text.now)) }
 {
     match path::find::find(text, table, path) {
-        Found::At(node) => node as u64,
-        Found::Refused(refusal) => packed(refusal),
+        Ok(node) => node as u64,
+        Err(refusal) => packed(refusal),
     }
 }
 
@@ -143,16 +141,15 @@ pub fn duper_summary(
     ensures { SummaryCrosses (summary present_edition text.now (reading present_edition (length table.old) text.now)) result counts.old counts.new heights.old heights.new × (table.new ≡ table_of (length table.old) (reading present_edition (length table.old) text.now)) }
 {
     match summary::summary::summarize(text, table) {
-        Summary::WithHeights(c, h) => {
+        Ok(summary) => {
+            let c = summary.counts;
             *counts = [c.measured, c.null, c.absent, c.unfit];
-            *heights = [h.least, h.greatest, h.mean];
+            if let Some(h) = summary.heights {
+                *heights = [h.least, h.greatest, h.mean];
+            }
             0
         }
-        Summary::WithoutHeights(c) => {
-            *counts = [c.measured, c.null, c.absent, c.unfit];
-            0
-        }
-        Summary::Refused(refusal) => packed(refusal),
+        Err(refusal) => packed(refusal),
     }
 }
 
@@ -170,11 +167,11 @@ pub fn duper_salvage(
     ensures { SalvageCrosses (salvage present_edition (length table.old) log.now out.old verdicts.old) result answer.new out.new verdicts.new table.new }
 {
     match salvage::salvage::salvage(log, table, out, verdicts) {
-        Salvaged::Written { bytes, lines } => {
+        Ok(Salvaged { bytes, lines }) => {
             *answer = [bytes as u64, lines as u64];
             0
         }
-        Salvaged::Refused(refusal) => {
+        Err(refusal) => {
             *answer = [0, 0];
             packed(refusal)
         }

@@ -11,12 +11,14 @@ use borrow.Author.Tests.{ltb-false, leb-false, eqb-true, not-false}
 use Rattle.text.specs.declared.switches.Switches.{Switches}
 use Rattle.reader.specs.Reading.{reading, reads, node_count, table_of, one_value, max_text}
 use Rattle.editor.specs.declared.change.InUse.{InUse}
-use Rattle.editor.specs.Edit.{Lent, in_use, Report, Result, text_of, journal_of, result_of, corrected, entry_of, with_text, overwritten, no_room, correction_refusal, with_correction, decided, correct}
+use Rattle.text.specs.Buffers.{overwritten}
+use Rattle.editor.specs.Edit.{Lent, in_use, Report, Result, text_of, journal_of, result_of, corrected, entry_of, with_text, no_room, correction_refusal, with_correction, decided, correct}
 use Rattle.editor.specs.Internal.{opened}
 use Rattle.editor.specs.Book.{Correction, Room, Seen, book_text, book_journal, book_refusal, told, handed_on, seen_of}
 use Rattle.editor.proofs.CallLaws.{good_length, opened_decided}
 use Rattle.editor.proofs.TrialLaws.{zero_cond}
-use Rattle.editor.proofs.SpliceLaws.{length_with_text, take_with_text, length_overwritten, take_overwritten}
+use Rattle.text.proofs.BufferLaws.{length_overwritten, take_overwritten}
+use Rattle.editor.proofs.SpliceLaws.{length_with_text, take_with_text}
 
 module _ (sw : Switches) where
   -- the answer and the buffers of a call, by text, journal and lengths

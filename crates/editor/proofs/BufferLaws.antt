@@ -1,75 +1,32 @@
--- Buffers written over: byte by byte, and one part after another.
+-- Buffers written over: with zeros, and one part after another.
 -- Assumes nothing.
 use mathlib.Core.Path.{◌≡◌, sym, ap, ap₂, ◌∙◌}
-use Prim.Native.Nat.{ℕ, ◌+◌, ◌-◌, ◌<◌, ◌≤◌, max}
+use Prim.Native.Nat.{ℕ, ◌+◌, ◌-◌, ◌≤◌, max}
 use native.Mathlib.Omega.{arith}
-use native.Mathlib.Numerals.{add-one}
 use mathlib.Core.List.{List, ◌++◌, append_assoc}
-use lib.ListN.{length, take, drop, get_or, set, replicate, length-append, length-drop, length-replicate}
-use lib.Seq.{paste, paste-zero, paste-suc, take_all, take-length, drop_at, drop-drop, length-take-le}
-use Rattle.text.proofs.ListLaws.{get_d_zeros}
-use Rattle.editor.specs.Edit.{splice, with_text, overwritten}
-use Rattle.editor.proofs.SpliceLaws.{take_overwritten}
+use lib.ListN.{length, take, drop, replicate, take-append-drop, length-append, length-drop, length-replicate}
+use lib.Seq.{take_all, drop-drop, length-take-le}
+use Rattle.text.specs.Buffers.{overwritten}
+use Rattle.editor.specs.Edit.{splice, with_text}
+use Rattle.text.proofs.BufferLaws.{over_join}
 
--- ---- a loop that writes `s` over `d` from `at` on, a byte a turn: after n turns it is `paste d at s n`
-
-pub paste_next : (d : List ℕ) (at : ℕ) (s : List ℕ) (j : ℕ) → at + j < length d → j < length s
-    → set (paste d at s j) (at + j) (get_or s j 0) ≡ paste d at s (j + 1)
-paste_next d at s j h k = paste-suc d at s j 0 h k ∙ ap (paste d at s) (sym (add-one j))
-
-pub paste_whole : (d : List ℕ) (at : ℕ) (s : List ℕ) (n : ℕ) → n ≡ length s → paste d at s n ≡ overwritten at s d
+-- zeros from `from` to before `to`, as a store of that part leaves them
+pub zeros_put : (d : List ℕ) (from to : ℕ) (zeros : List ℕ) → from ≤ to → to ≤ length d → zeros ≡ replicate (length (take (to - from) (drop from d))) 0
+    → take from d ++ (zeros ++ drop (to - from) (drop from d)) ≡ overwritten from (replicate (to - from) 0) d
 unfolding overwritten
-paste_whole d at s n e =
-    ap (paste d at s) e
-    ∙ ap (λ (l : List ℕ). take at d ++ l ++ drop (at + length s) d) (take-length s)
-    ∙ append_assoc (take at d) s (drop (at + length s) d)
+zeros_put d from to zeros h k e =
+    let n = length-replicate {A = ℕ} (to - from) 0 in
+    let l : length (take (to - from) (drop from d)) ≡ to - from = let a = length-drop from d in length-take-le (to - from) (drop from d) (omega arith) in
+    let f : from + (to - from) ≡ from + length (replicate {A = ℕ} (to - from) 0) = omega arith in
+    ap₂ (λ (x y : List ℕ). take from d ++ (x ++ y)) (e ∙ ap (λ (m : ℕ). replicate m 0) l) (drop-drop (to - from) from d ∙ ap (λ (m : ℕ). drop m d) f)
 
--- the same with zeros, from `from` to before `to`
-pub zero_start : (d : List ℕ) (from to : ℕ) → d ≡ paste d from (replicate (to - from) 0) (from - from)
-zero_start d from to =
-    let e : 0 ≡ from - from = omega arith in
-    paste-zero d from (replicate (to - from) 0) ∙ ap (paste d from (replicate (to - from) 0)) e
-
-module _ (d : List ℕ) (from to i : ℕ) where
-  pub zero_next : from ≤ i → i < to → to ≤ length d
-      → set (paste d from (replicate (to - from) 0) (i - from)) i 0 ≡ paste d from (replicate (to - from) 0) (i + 1 - from)
-  zero_next h k l =
-      let zeros : List ℕ = replicate (to - from) 0 in
-      let n = length-replicate {A = ℕ} (to - from) 0 in
-      let e : i ≡ from + (i - from) = omega arith in
-      let f : i - from + 1 ≡ i + 1 - from = omega arith in
-      ap₂ (set (paste d from zeros (i - from))) e (sym (get_d_zeros (to - from) (i - from)))
-      ∙ paste_next d from zeros (i - from) (omega arith) (omega arith)
-      ∙ ap (paste d from zeros) f
-
-  pub zero_whole : to ≤ i → i ≤ max from to → paste d from (replicate (to - from) 0) (i - from) ≡ overwritten from (replicate (to - from) 0) d
-  zero_whole h k =
-      let n = length-replicate {A = ℕ} (to - from) 0 in
-      paste_whole d from (replicate (to - from) 0) (i - from) (omega arith)
-
--- ---- one part after another
-
-drop_overwritten : (at : ℕ) (a d : List ℕ) → at + length a ≤ length d → drop (at + length a) (overwritten at a d) ≡ drop (at + length a) d
+-- no zeros, where there is nothing between
+pub no_zeros : (d : List ℕ) (from to : ℕ) → to ≤ from → d ≡ overwritten from (replicate (to - from) 0) d
 unfolding overwritten
-drop_overwritten at a d h =
-    let t = length-take-le at d (omega arith) in
-    ap (drop (at + length a)) (sym (append_assoc (take at d) a (drop (at + length a) d)))
-    ∙ drop_at (take at d ++ a) (drop (at + length a) d) (at + length a) (length-append (take at d) a ∙ ap (λ (n : ℕ). n + length a) t)
-
--- b, where a ended
-pub over_join : (at : ℕ) (a b d : List ℕ) (n : ℕ) → n ≡ at + length a → at + length a ≤ length d
-    → overwritten n b (overwritten at a d) ≡ overwritten at (a ++ b) d
-unfolding overwritten
-over_join at a b d n e h =
-    let m : List ℕ = overwritten at a d in
-    let l = length-append a b in
-    let f : at + length a + length b ≡ at + length (a ++ b) = omega arith in
-    ap (λ (k : ℕ). take k m ++ (b ++ drop (k + length b) m)) e
-    ∙ ap₂ (λ (x y : List ℕ). x ++ (b ++ y)) (take_overwritten at a d h)
-    (sym (drop-drop (length b) (at + length a) m) ∙ ap (drop (length b)) (drop_overwritten at a d h) ∙ drop-drop (length b) (at + length a) d
-    ∙ ap (λ (k : ℕ). drop k d) f)
-    ∙ append_assoc (take at d) a (b ++ drop (at + length (a ++ b)) d)
-    ∙ ap (λ (x : List ℕ). take at d ++ x) (sym (append_assoc a b (drop (at + length (a ++ b)) d)))
+no_zeros d from to h =
+    let e : to - from ≡ 0 = omega arith in
+    let z : from + 0 ≡ from = omega arith in
+    sym (ap (λ (k : ℕ). take from d ++ (replicate k 0 ++ drop (from + length (replicate {A = ℕ} k 0)) d)) e ∙ ap (λ (k : ℕ). take from d ++ drop k d) z ∙ take-append-drop from d)
 
 -- a new text, and zeros after it
 pub over_text : (used : ℕ) (new d : List ℕ) → length new ≤ length d

@@ -1,5 +1,6 @@
 -- What both calls share: the lengths, the reading, and what is shown at the end.
 -- Assumes nothing.
+use Rattle.std.specs.Prelude.{Ok, Err}
 use mathlib.Core.Path.{◌≡◌, refl, sym, ap, ap₂, ◌∙◌, subst}
 use Prim.Native.Nat.{ℕ, ◌+◌, ◌<◌, ◌≤◌}
 use native.Mathlib.Omega.{arith}
@@ -8,20 +9,16 @@ use mathlib.Core.List.{List}
 use lib.Dec.{eqb}
 use lib.ListN.{length, take, replicate}
 use borrow.Author.Tests.{lt-ltb, le-ltb, ne_eqb}
-use Rattle.text.specs.declared.refusal.Refusal.{Refusal}
+use Rattle.text.specs.Refusal.{Refusal, refusal}
 use Rattle.text.specs.declared.switches.Switches.{Switches}
-use Rattle.text.specs.Refusal.{refusal}
 use Rattle.text.proofs.Choice.{cond-true, cond-false}
 use Rattle.reader.specs.Syntax.{Outcome, taken, refused}
-use Rattle.reader.specs.declared.read.Reading.{Reading}
-use Rattle.reader.specs.declared.read.Reading.TheVariants as R
 use Rattle.reader.specs.Reading.{reading, reads, is_taken, node_count, table_of, answer_of}
-use Rattle.editor.specs.declared.change.Verdict.{Verdict}
-use Rattle.editor.specs.declared.change.Verdict.TheVariants as A
-use Rattle.editor.specs.declared.change.Change.{Change}
-use Rattle.editor.specs.Edit.{Lent, Result, leaving, Shows, text_of, change_of, verdict_of, bad_length, length_refused, overwritten, result_of, decided, once_read}
+use Rattle.std.specs.declared.result.Result as Rust
+use Rattle.text.specs.Buffers.{overwritten}
+use Rattle.editor.specs.Edit.{Lent, Result, leaving, Shows, text_of, change_of, verdict_of, bad_length, length_refused, result_of, decided, once_read, Change}
 use Rattle.editor.specs.Internal.{changed, refused_with, TableIs, ReadNow, Stopped, OpensIs, Opens, opened}
-use Rattle.editor.proofs.SpliceLaws.{take_overwritten}
+use Rattle.text.proofs.BufferLaws.{take_overwritten}
 use Rattle.reader.proofs.NumberBound.{NumberWithin, number_law}
 
 -- ---- lists
@@ -38,7 +35,7 @@ module _ (sw : Switches) (words : ℕ) where
   -- ---- what is shown
 
   -- a result with the buffers as they are in `b`
-  pub shows_result : (b : Lent) (number place nodes : ℕ) (verdict : Verdict) (table : List ℕ) → verdict ≡ verdict_of number place → TableIs sw words (text_of b) table nodes
+  pub shows_result : (b : Lent) (number place nodes : ℕ) (verdict : Rust.Result Unit Refusal) (table : List ℕ) → verdict ≡ verdict_of number place → TableIs sw words (text_of b) table nodes
       → Showing (result_of sw words number place b) (changed verdict nodes b.used) b.text b.journal table
   unfolding result_of change_of
   shows_result b number place nodes verdict table v t =
@@ -58,18 +55,18 @@ module _ (sw : Switches) (words : ℕ) where
         let z : eqb number 0 ≡ false = ne_eqb number 0 (λ k. omega arith) in
         let d : decided sw words b decision new ≡ result_of sw words number 0 b =
         ap (λ (n : ℕ). decided sw words b n new) e ∙ cond-false (eqb number 0) (result_of sw words 0 0 new) (result_of sw words number 0 b) z in
-        let v : A.Refused (refusal number 0) ≡ verdict_of number 0 = sym (cond-false (eqb number 0) A.Done (A.Refused (refusal number 0)) z) in
+        let v : Err (refusal number 0) ≡ verdict_of number 0 = sym (cond-false (eqb number 0) (Ok tt) (Err (refusal number 0)) z) in
         subst (λ (s : Result). Showing s r b.text b.journal table) (sym d)
-        (subst (λ (x : Change). Showing (result_of sw words number 0 b) x b.text b.journal table) (sym q) (shows_result b number 0 nodes (A.Refused (refusal number 0)) table v t))
+        (subst (λ (x : Change). Showing (result_of sw words number 0 b) x b.text b.journal table) (sym q) (shows_result b number 0 nodes (Err (refusal number 0)) table v t))
 
     -- done, with the new buffers
-    pub shows_done : (text journal : List ℕ) → decision ≡ 0 → r ≡ changed A.Done nodes new.used
+    pub shows_done : (text journal : List ℕ) → decision ≡ 0 → r ≡ changed (Ok tt) nodes new.used
         → TableIs sw words (text_of new) table nodes → text ≡ new.text → journal ≡ new.journal → Showing (decided sw words b decision new) r text journal table
     unfolding decided verdict_of
     shows_done text journal e q t tx jx =
         let d : decided sw words b decision new ≡ result_of sw words 0 0 new = ap (λ (n : ℕ). decided sw words b n new) e in
-        let s : Showing (result_of sw words 0 0 new) (changed A.Done nodes new.used) new.text new.journal table =
-        shows_result new 0 0 nodes A.Done table refl t in
+        let s : Showing (result_of sw words 0 0 new) (changed (Ok tt) nodes new.used) new.text new.journal table =
+        shows_result new 0 0 nodes (Ok tt) table refl t in
         record {
           answer_is = q ∙ s.answer_is ∙ ap (λ (x : Result). change_of x.answer) (sym d);
           text_is = tx ∙ s.text_is ∙ ap (λ (x : Result). x.lent.text) (sym d);
@@ -89,14 +86,14 @@ module _ (sw : Switches) (words : ℕ) where
     long_journal g h = rw (le-ltb _ _ g, lt-ltb _ _ h)
 
     -- 11
-    pub opens_bad : (table : List ℕ) (r : Reading) → bad_length b ≡ true → r ≡ R.Refused (refusal 11 0) → table ≡ replicate words 0 → Opens sw words b table r
+    pub opens_bad : (table : List ℕ) (r : Rust.Result ℕ Refusal) → bad_length b ≡ true → r ≡ Err (refusal 11 0) → table ≡ replicate words 0 → Opens sw words b table r
     unfolding length_refused change_of verdict_of
     opens_bad table r e q t =
         record {
           is = subst (OpensIs sw words b table) (sym q)
               (record {
                 shows = λ decision new.
-                    subst (λ (s : Result). Showing s (changed (A.Refused (refusal 11 0)) 0 b.used) b.text b.journal table)
+                    subst (λ (s : Result). Showing s (changed (Err (refusal 11 0)) 0 b.used) b.text b.journal table)
                     (sym (cond-true (bad_length b) (length_refused words b) (once_read sw words b (reading sw words (text_of b)) decision new) e))
                     (record { answer_is = refl; text_is = refl; journal_is = refl; table_is = t });
               });
@@ -143,29 +140,29 @@ module _ (sw : Switches) (words : ℕ) where
     opens_by (refused k p) e n g h =
         let t : TableIs sw words (text_of b) (table_of words (refused k p)) 0 = record { nodes_are = ap node_count (sym e); table_is = ap (table_of words) (sym e) } in
         let m = n.0 in
-        let v : A.Refused (refusal k p) ≡ verdict_of k p = sym (cond-false (eqb k 0) A.Done (A.Refused (refusal k p)) (ne_eqb k 0 (λ z. omega arith))) in
+        let v : Err (refusal k p) ≡ verdict_of k p = sym (cond-false (eqb k 0) (Ok tt) (Err (refusal k p)) (ne_eqb k 0 (λ z. omega arith))) in
         record {
           shows = λ decision new.
-              subst (λ (s : Result). Showing s (changed (A.Refused (refusal k p)) 0 b.used) b.text b.journal (table_of words (refused k p)))
+              subst (λ (s : Result). Showing s (changed (Err (refusal k p)) 0 b.used) b.text b.journal (table_of words (refused k p)))
               (sym (cond-false (bad_length b) (length_refused words b) (once_read sw words b (reading sw words (text_of b)) decision new) (good_length g h)
               ∙ ap (λ (o : Outcome). once_read sw words b o decision new) e))
-              (shows_result b k p 0 (A.Refused (refusal k p)) (table_of words (refused k p)) v t);
+              (shows_result b k p 0 (Err (refusal k p)) (table_of words (refused k p)) v t);
         }
 
     -- the reading
-    pub opens_read : (table : List ℕ) (r : Reading) → b.used.text ≤ length b.text → b.used.journal ≤ length b.journal
+    pub opens_read : (table : List ℕ) (r : Rust.Result ℕ Refusal) → b.used.text ≤ length b.text → b.used.journal ≤ length b.journal
         → r ≡ answer_of (reading sw words (take b.used.text b.text)) → table ≡ table_of words (reading sw words (take b.used.text b.text)) → Opens sw words b table r
     unfolding text_of
     opens_read table r g h q t =
         record {
-          is = subst (λ (x : Reading). OpensIs sw words b table x) (sym q)
+          is = subst (λ (x : Rust.Result ℕ Refusal). OpensIs sw words b table x) (sym q)
               (subst (λ (l : List ℕ). OpensIs sw words b l (answer_of (reading sw words (take b.used.text b.text)))) (sym t)
               (opens_by (reading sw words (take b.used.text b.text)) refl (number_law sw words (take b.used.text b.text)) g h));
         }
 
-  module _ {b : Lent} {table : List ℕ} {r : Reading} where
-    pub opens_taken : {n : ℕ} → r ≡ R.Taken n → Opens sw words b table r → ReadNow sw words b table n
+  module _ {b : Lent} {table : List ℕ} {r : Rust.Result ℕ Refusal} where
+    pub opens_taken : {n : ℕ} → r ≡ Ok n → Opens sw words b table r → ReadNow sw words b table n
     opens_taken e h = subst (OpensIs sw words b table) e h.is
 
-    pub opens_stopped : {f : Refusal} → r ≡ R.Refused f → Opens sw words b table r → Stopped sw words b table f
+    pub opens_stopped : {f : Refusal} → r ≡ Err f → Opens sw words b table r → Stopped sw words b table f
     opens_stopped e h = subst (OpensIs sw words b table) e h.is

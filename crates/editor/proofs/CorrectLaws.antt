@@ -1,5 +1,6 @@
 -- A correction: one law for each way out.
 -- Assumes nothing.
+use Rattle.std.specs.Prelude.{Ok, Err}
 use mathlib.Core.Path.{◌≡◌, refl, sym, ap, ◌∙◌, subst}
 use Prim.Native.Nat.{ℕ, ◌+◌, ◌-◌, ◌<◌, ◌≤◌}
 use native.Mathlib.Omega.{arith}
@@ -9,16 +10,15 @@ use lib.Dec.{ltb}
 use lib.ListN.{length, take, length-append}
 use lib.Seq.{length-take-le}
 use borrow.Author.Tests.{lt-leb, le-leb}
-use Rattle.text.specs.declared.refusal.Refusal.{Refusal}
+use Rattle.text.specs.Refusal.{Refusal}
 use Rattle.text.specs.declared.span.Span.{Span}
 use Rattle.text.specs.declared.switches.Switches.{Switches}
 use Rattle.reader.specs.Reading.{reading, node_count, word_of, one_value, max_text}
 use Rattle.reader.specs.Content.{part}
 use Rattle.reader.proofs.SpanLaws.{span_law}
-use Rattle.editor.specs.declared.change.Verdict.TheVariants as A
-use Rattle.editor.specs.declared.change.Change.{Change}
 use Rattle.editor.specs.declared.trial.Present.{Present}
-use Rattle.editor.specs.Edit.{Lent, lent_of, Result, text_of, splice, trailer, trailer_bytes, entry, with_text, overwritten, decided, value_start, value_stop, corrected, entry_of, correction_refusal, with_correction, correct}
+use Rattle.text.specs.Buffers.{overwritten}
+use Rattle.editor.specs.Edit.{Lent, lent_of, Result, text_of, splice, trailer, trailer_bytes, entry, with_text, decided, value_start, value_stop, corrected, entry_of, correction_refusal, with_correction, correct, Change}
 use Rattle.editor.specs.Internal.{changed, Knows, ReadNow, Stopped, change_refusal, with_replacement, Within, Judged, replaced, corrected_read}
 use Rattle.editor.proofs.SpliceLaws.{length_part, take_with_text}
 use Rattle.editor.proofs.EntryLaws.{length_trailer}
@@ -75,12 +75,12 @@ module _ (p : Present) (text journal : List ℕ) (words : ℕ) (span : Span) (re
       judged_entry : Judged p.sw words b new (p.used.journal + length more) r table draft
       judged_entry = subst (λ (j : ℕ). Judged p.sw words b new j r table draft) with_entry judged
 
-      pub replace_refused : (f : Refusal) → r.verdict ≡ A.Refused f → Showing (replaced p text journal words span replacement) r text journal table
+      pub replace_refused : (f : Refusal) → r.verdict ≡ Err f → Showing (replaced p text journal words span replacement) r text journal table
       replace_refused f v =
           judged_refuses p.sw words b new (p.used.journal + length more) r table draft judged_entry (with_replacement b span replacement) f v
 
       -- the entry and the new text are written
-      pub replace_done : (out bytes old : List ℕ) → r.verdict ≡ A.Done → out ≡ with_text p.used.text (take r.used.text draft) text
+      pub replace_done : (out bytes old : List ℕ) → r.verdict ≡ (Ok tt) → out ≡ with_text p.used.text (take r.used.text draft) text
           → old ≡ part span.start span.stop text
           → bytes ≡ overwritten p.used.journal (old ++ trailer span.start (length replacement) (length old)) journal
           → Showing (replaced p text journal words span replacement) r out bytes table
@@ -153,7 +153,7 @@ module _ (p : Present) (text journal : List ℕ) (node : ℕ) (replacement table
 
 module _ (sw : Switches) (words : ℕ) (b : Lent) (node : ℕ) (replacement : List ℕ) where
   pub correct_stops : (table : List ℕ) (f : Refusal) → Stopped sw words b table f
-      → Showing (correct sw words b node replacement) (changed (A.Refused f) 0 b.used) b.text b.journal table
+      → Showing (correct sw words b node replacement) (changed (Err f) 0 b.used) b.text b.journal table
   unfolding correct
   correct_stops table f s = s.shows _ _
 

@@ -1,26 +1,14 @@
 -- Numbers of four bytes, and entries, as the code writes and reads them.
 -- Assumes nothing.
 use mathlib.Core.Path.{◌≡◌, refl, sym, ap, ◌∙◌}
-use Prim.Native.Nat.{ℕ, suc, ◌+◌, ◌*◌, ◌/◌, ◌%◌, ◌≤◌}
+use Prim.Native.Nat.{ℕ, ◌+◌, ◌*◌, ◌≤◌}
 use native.Mathlib.Omega.{arith}
 use mathlib.Core.List.{List, ◌++◌, append_assoc}
-use lib.ListN.{length, take, drop, get_or, set, length-append}
-use lib.Seq.{sets-eq, get_or-drop}
-use Rattle.editor.specs.Edit.{le32, from_le32, trailer, trailer_bytes, overwritten}
-use Rattle.editor.proofs.BufferLaws.{over_join}
-
--- the four stores
-pub number_put : (d : List ℕ) (at n : ℕ) → at + 4 ≤ length d
-    → set (set (set (set d at (n % 256)) (at + 1) (n / 256 % 256)) (at + 2) (n / 65536 % 256)) (at + 3) (n / 16777216 % 256)
-    ≡ overwritten at (le32 n) d
-unfolding le32 overwritten
-number_put d at n h =
-    let a : at + 1 ≡ suc at = omega arith in
-    let b : at + 2 ≡ suc (suc at) = omega arith in
-    let c : at + 3 ≡ suc (suc (suc at)) = omega arith in
-    (λ i. set (set (set (set d at (n % 256)) (a i) (n / 256 % 256)) (b i) (n / 65536 % 256)) (c i) (n / 16777216 % 256))
-    ∙ sets-eq (le32 n) d at h
-    ∙ append_assoc (take at d) (le32 n) (drop (at + 4) d)
+use lib.ListN.{length, drop, get_or, length-append}
+use lib.Seq.{get_or-drop}
+use Rattle.text.specs.Buffers.{overwritten}
+use Rattle.editor.specs.Edit.{le32, from_le32, trailer, trailer_bytes}
+use Rattle.text.proofs.BufferLaws.{over_join}
 
 -- the four loads
 pub number_read : (s : List ℕ) (at : ℕ)

@@ -1,6 +1,8 @@
 -- The last entry of a journal: one law for each way out of its reading, and what each answer says.
 -- Assumes nothing.
-use mathlib.Core.Path.{◌≡◌, refl, sym, ap, ◌∙◌}
+use Rattle.std.specs.declared.result.Result as Rust
+use Rattle.std.specs.Prelude.{Ok, Err}
+use mathlib.Core.Path.{◌≡◌, refl, sym, ap, subst, ◌∙◌}
 use Prim.Native.Nat.{ℕ, ◌+◌, ◌-◌, ◌<◌, ◌≤◌}
 use native.Mathlib.Omega.{arith}
 use mathlib.Core.Bool.{Bool, true, false, cond, ◌||◌}
@@ -10,21 +12,20 @@ use lib.ListN.{length, drop}
 use borrow.Author.Tests.{lt-ltb, le-ltb, ltb-false, eq-eqb, ne_eqb, eqb-true, eqb-false}
 use Rattle.text.proofs.Choice.{or_left, or_right}
 use Rattle.editor.specs.declared.journal.Trailer.{Trailer}
-use Rattle.editor.specs.declared.journal.Entry.TheVariants as E
 use Rattle.editor.specs.Edit.{from_le32, trailer_number, entry_start, entry_new, entry_size, bad_entry, trailer_bytes}
 use Rattle.editor.specs.Internal.{trailer_of, last_entry}
 
 module _ (j t : List ℕ) where
-  pub last_nothing : length j ≡ 0 → E.Nothing ≡ last_entry j t
+  pub last_nothing : length j ≡ 0 → (Err 17) ≡ last_entry j t
   unfolding last_entry
   last_nothing e = sym (rw (eq-eqb (length j) 0 e))
 
   module _ (some : length j ≡ 0 → ⊥) where
-    bad_is : bad_entry j t ≡ true → E.Bad ≡ last_entry j t
+    bad_is : bad_entry j t ≡ true → (Err 18) ≡ last_entry j t
     unfolding last_entry
     bad_is e = sym (rw (ne_eqb (length j) 0 some, e))
 
-    pub last_short : length j < trailer_bytes → E.Bad ≡ last_entry j t
+    pub last_short : length j < trailer_bytes → (Err 18) ≡ last_entry j t
     unfolding bad_entry
     last_short h = bad_is (rw (lt-ltb (length j) trailer_bytes h))
 
@@ -33,12 +34,12 @@ module _ (j t : List ℕ) where
       unfolding trailer_number
       size_is = z
 
-      pub last_small : size < trailer_bytes → E.Bad ≡ last_entry j t
+      pub last_small : size < trailer_bytes → (Err 18) ≡ last_entry j t
       unfolding bad_entry
       last_small h = let e = size_is in bad_is (rw (le-ltb (length j) trailer_bytes long, lt-ltb (entry_size j) trailer_bytes (omega arith)))
 
       module _ (least : trailer_bytes ≤ size) where
-        pub last_large : length j < size → E.Bad ≡ last_entry j t
+        pub last_large : length j < size → (Err 18) ≡ last_entry j t
         unfolding bad_entry
         last_large h =
             let e = size_is in
@@ -53,7 +54,7 @@ module _ (j t : List ℕ) where
           unfolding trailer_number
           new_is = n
 
-          pub last_past : length t < start + new → E.Bad ≡ last_entry j t
+          pub last_past : length t < start + new → (Err 18) ≡ last_entry j t
           unfolding bad_entry
           last_past h =
               let e = size_is in
@@ -79,35 +80,49 @@ module _ (j t : List ℕ) where
                 le-ltb (length t) (entry_start j + entry_new j) (omega arith),
               )
 
-          pub last_good : start + new ≤ length t → E.Good (trailer_of start (start + new) size) ≡ last_entry j t
+          pub last_good : start + new ≤ length t → Ok (trailer_of start (start + new) size) ≡ last_entry j t
           unfolding last_entry
           last_good h =
-              (λ i. E.Good (trailer_of (start_is i) (start_is i + new_is i) (size_is i)))
+              (λ i. Ok (trailer_of (start_is i) (start_is i + new_is i) (size_is i)))
               ∙ sym (rw (ne_eqb (length j) 0 some, good h))
 
 -- ---- back from an answer
 
-is_nothing : (p q : Bool) (x : Trailer) → cond p E.Nothing (cond q E.Bad (E.Good x)) ≡ E.Nothing → p ≡ true
+abbrev judged : Bool → Bool → Trailer → Rust.Result Trailer ℕ
+judged p q x = cond p (Err 17) (cond q (Err 18) (Ok x))
+
+entry_number_by : (p q : Bool) (x : Trailer) (n : ℕ) (P : ℕ → Type 0) → judged p q x ≡ Err n
+    → (judged p q x ≡ Err 17 → P 17) → (judged p q x ≡ Err 18 → P 18) → P n
+entry_number_by true q x n P e a b = let h : 17 ≡ n = cc in subst P h (a refl)
+entry_number_by false true x n P e a b = let h : 18 ≡ n = cc in subst P h (b refl)
+entry_number_by false false x n P e a b = let h : ◌≡◌ {A = ℕ} 0 1 = cc in absurd (omega arith)
+
+is_nothing : (p q : Bool) (x : Trailer) → judged p q x ≡ (Err 17) → p ≡ true
 is_nothing true q x e = refl
 is_nothing false true x e = cc
 is_nothing false false x e = cc
 
-is_bad : (p q : Bool) (x : Trailer) → cond p E.Nothing (cond q E.Bad (E.Good x)) ≡ E.Bad → (p ≡ false) × (q ≡ true)
+is_bad : (p q : Bool) (x : Trailer) → judged p q x ≡ (Err 18) → (p ≡ false) × (q ≡ true)
 is_bad true q x e = (cc, cc)
 is_bad false true x e = (refl, refl)
 is_bad false false x e = (cc, cc)
 
-is_good_law : (p q : Bool) (x y : Trailer) → cond p E.Nothing (cond q E.Bad (E.Good x)) ≡ E.Good y → (p ≡ false) × (q ≡ false) × (x ≡ y)
+is_good_law : (p q : Bool) (x y : Trailer) → judged p q x ≡ Ok y → (p ≡ false) × (q ≡ false) × (x ≡ y)
 is_good_law true q x y e = (cc, cc, cc)
 is_good_law false true x y e = (cc, cc, cc)
 is_good_law false false x y e = (refl, refl, cc)
 
 module _ (j t : List ℕ) where
-  pub nothing_says : last_entry j t ≡ E.Nothing → length j ≡ 0
+  -- an entry is refused with 17 or 18
+  pub entry_number : (n : ℕ) (P : ℕ → Type 0) → last_entry j t ≡ Err n → (last_entry j t ≡ Err 17 → P 17) → (last_entry j t ≡ Err 18 → P 18) → P n
+  unfolding last_entry
+  entry_number n P e a b = entry_number_by (eqb (length j) 0) (bad_entry j t) _ n P e a b
+
+  pub nothing_says : last_entry j t ≡ (Err 17) → length j ≡ 0
   unfolding last_entry
   nothing_says e = eqb-true (length j) 0 (is_nothing (eqb (length j) 0) (bad_entry j t) _ e)
 
-  pub bad_says : last_entry j t ≡ E.Bad → (length j ≡ 0 → ⊥) × (bad_entry j t ≡ true)
+  pub bad_says : last_entry j t ≡ (Err 18) → (length j ≡ 0 → ⊥) × (bad_entry j t ≡ true)
   unfolding last_entry
   bad_says e =
       let b = is_bad (eqb (length j) 0) (bad_entry j t) _ e in
@@ -125,7 +140,7 @@ module _ (j t : List ℕ) where
     pub least : trailer_bytes ≤ trailer.size
     pub most : trailer.size ≤ length j
 
-  pub good_says : (trailer : Trailer) → last_entry j t ≡ E.Good trailer → Good trailer
+  pub good_says : (trailer : Trailer) → last_entry j t ≡ Ok trailer → Good trailer
   unfolding last_entry bad_entry
   good_says trailer e =
       let l = is_good_law (eqb (length j) 0) (bad_entry j t) (trailer_of (entry_start j) (entry_start j + entry_new j) (entry_size j)) trailer e in

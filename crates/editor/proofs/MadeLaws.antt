@@ -11,8 +11,7 @@ use Rattle.reader.specs.Syntax.{Outcome, taken, refused}
 use Rattle.reader.specs.Reading.{reading}
 use Rattle.reader.proofs.SizeLaws.{table_law}
 use Rattle.editor.specs.declared.change.InUse.{InUse}
-use Rattle.editor.specs.declared.change.Change.{Change}
-use Rattle.editor.specs.Edit.{Lent, lent_of, Report, Result, Left, Shows, change_of, text_of, journal_of, bad_length, length_refused, result_of, decided, once_read, correct, undo}
+use Rattle.editor.specs.Edit.{Lent, lent_of, Report, Result, Left, Shows, change_of, text_of, journal_of, bad_length, length_refused, result_of, decided, once_read, correct, undo, Change}
 use Rattle.editor.specs.Book.{Call, correction, undoing, handed_on, seen_of, called, calls, Demand3}
 use Rattle.editor.specs.Internal.{opened}
 use Rattle.editor.specs.Calls.{Made, left_lent, Successive, seen_left, seen_as, Demand3Of, Demand3OfCode}

@@ -1,4 +1,4 @@
--- Parts of a text put in place of others, and buffers written over: how long they are, and what stands in front.
+-- Parts of a text put in place of others, and buffers with a new text: how long they are, and what stands in front.
 -- Assumes nothing.
 use mathlib.Core.Path.{◌≡◌, sym, ap, ap₂, ◌∙◌}
 use Prim.Native.Nat.{ℕ, ◌+◌, ◌-◌, ◌≤◌, max}
@@ -7,7 +7,7 @@ use mathlib.Core.List.{List, ◌++◌, append_assoc}
 use lib.ListN.{length, take, drop, replicate, length-append, length-drop, take-append-drop, length-replicate}
 use lib.Seq.{take_at, drop_at, take-add, length-take-le, take-append_seam}
 use Rattle.reader.specs.Content.{part}
-use Rattle.editor.specs.Edit.{splice, with_text, overwritten}
+use Rattle.editor.specs.Edit.{splice, with_text}
 
 -- ---- texts
 
@@ -52,19 +52,3 @@ length_with_text u x buf h k =
 pub take_with_text : (u : ℕ) (x buf : List ℕ) → take (length x) (with_text u x buf) ≡ x
 unfolding with_text
 take_with_text u x buf = take-append_seam x (replicate (u - length x) 0 ++ drop (max u (length x)) buf)
-
-pub length_overwritten : (k : ℕ) (x buf : List ℕ) → k + length x ≤ length buf → length (overwritten k x buf) ≡ length buf
-unfolding overwritten
-length_overwritten k x buf h =
-    let a = length-append (take k buf) (x ++ drop (k + length x) buf) in
-    let b = length-append x (drop (k + length x) buf) in
-    let c = length-take-le k buf (omega arith) in
-    let d = length-drop (k + length x) buf in
-    omega arith
-
-pub take_overwritten : (k : ℕ) (x buf : List ℕ) → k + length x ≤ length buf → take (k + length x) (overwritten k x buf) ≡ take k buf ++ x
-unfolding overwritten
-take_overwritten k x buf h =
-    let c = length-take-le k buf (omega arith) in
-    ap (take (k + length x)) (sym (append_assoc (take k buf) x (drop (k + length x) buf)))
-    ∙ take_at (take k buf ++ x) (drop (k + length x) buf) (k + length x) (length-append (take k buf) x ∙ ap (λ (n : ℕ). n + length x) c)

@@ -1,5 +1,7 @@
 -- A change on trial: one law for each way out, and what the answer says of the buffers.
 -- Assumes nothing.
+use Rattle.std.specs.declared.result.Result as Rust
+use Rattle.std.specs.Prelude.{Ok, Err}
 use mathlib.Core.Path.{◌≡◌, refl, sym, ap, ◌∙◌, subst}
 use Prim.Native.Nat.{ℕ, ◌+◌, ◌-◌, ◌<◌, ◌≤◌, min}
 use native.Mathlib.Omega.{arith}
@@ -9,18 +11,15 @@ use lib.Dec.{T, ltb, ltb→lt}
 use lib.ListN.{length, take}
 use lib.Seq.{length-take-le}
 use borrow.Author.Tests.{lt-ltb, le-ltb, ltb-false}
-use Rattle.text.specs.declared.refusal.Refusal.{Refusal}
+use Rattle.text.specs.Refusal.{Refusal, refusal}
 use Rattle.text.specs.declared.span.Span.{Span}
 use Rattle.text.specs.declared.switches.Switches.{Switches}
-use Rattle.text.specs.Refusal.{refusal}
-use Rattle.reader.specs.declared.read.Reading.TheVariants as R
 use Rattle.reader.specs.Reading.{reading, reads, node_count, table_of, answer_of, max_text}
 use Rattle.reader.proofs.SizeLaws.{taken_is, taken_not, taken_nodes}
-use Rattle.editor.specs.declared.change.Verdict.TheVariants as A
-use Rattle.editor.specs.declared.change.Change.{Change}
 use Rattle.editor.specs.declared.trial.Present.{Present}
 use Rattle.editor.specs.declared.trial.Plan.{Plan}
-use Rattle.editor.specs.Edit.{Lent, lent_of, in_use, text_of, splice, overwritten, no_room, decided}
+use Rattle.text.specs.Buffers.{overwritten}
+use Rattle.editor.specs.Edit.{Lent, lent_of, in_use, text_of, splice, no_room, decided, Change}
 use Rattle.editor.specs.Internal.{changed, refused_with, TableIs, ReadNow, change_refusal, Within, Judged, Judges}
 use Rattle.editor.proofs.SpliceLaws.{length_splice}
 use Rattle.editor.proofs.CallLaws.{front_is, Showing, shows_refused, shows_done}
@@ -30,7 +29,7 @@ pub zero_cond : (b : Bool) (n x : ℕ) → T (ltb 0 n) → cond b n x ≡ 0 → 
 zero_cond true n x t e = let h = ltb→lt 0 n t in absurd (omega arith)
 zero_cond false n x t e = (refl, e)
 
-refused_not_done : (f : Refusal) → A.Refused f ≡ A.Done → ⊥
+refused_not_done : (f : Refusal) → ◌≡◌ {A = Rust.Result Unit Refusal} (Err f) (Ok tt) → ⊥
 refused_not_done f e = let v : ◌≡◌ {A = ℕ} 0 1 = cc in omega arith
 
 -- the length of the text with a span replaced
@@ -77,24 +76,24 @@ module _ (sw : Switches) (words : ℕ) where
             done = λ v. absurd (refused_not_done (refusal number 0) (sym (ap (λ (c : Change). c.verdict) q) ∙ v));
           }
 
-      pub judged_done : (n nodes : ℕ) → n ≡ length new → change_refusal sw words b new journal ≡ 0 → r ≡ changed A.Done nodes (in_use n journal)
+      pub judged_done : (n nodes : ℕ) → n ≡ length new → change_refusal sw words b new journal ≡ 0 → r ≡ changed (Ok tt) nodes (in_use n journal)
           → TableIs sw words new table nodes → take n draft ≡ new → Judged sw words b new journal r table draft
       judged_done n nodes l e q t d =
           let m : nodes ≡ r.nodes = sym (ap (λ (c : Change). c.nodes) q) in
           let u : r.used.text ≡ n = ap (λ (c : Change). c.used.text) q in
           record {
             refused = λ f v. absurd (refused_not_done f (sym v ∙ ap (λ (c : Change). c.verdict) q));
-            done = λ v. (e, q ∙ (λ i. changed A.Done (m i) (in_use (l i) journal)), subst (TableIs sw words new table) m t, ap (λ (k : ℕ). take k draft) u ∙ d);
+            done = λ v. (e, q ∙ (λ i. changed (Ok tt) (m i) (in_use (l i) journal)), subst (TableIs sw words new table) m t, ap (λ (k : ℕ). take k draft) u ∙ d);
           }
 
       module _ (judged : Judged sw words b new journal r table draft) where
-        pub judged_refuses : (lent : Lent) (f : Refusal) → r.verdict ≡ A.Refused f
+        pub judged_refuses : (lent : Lent) (f : Refusal) → r.verdict ≡ Err f
             → Showing (decided sw words b (change_refusal sw words b new journal) lent) r b.text b.journal table
         judged_refuses lent f v =
             let j = judged.refused f v in
             shows_refused sw words b lent (change_refusal sw words b new journal) r table r.nodes (change_refusal sw words b new journal) refl j.0 j.1 j.2
 
-        module _ (v : r.verdict ≡ A.Done) where
+        module _ (v : r.verdict ≡ (Ok tt)) where
           -- there is room for the new text, and in the journal
           pub judged_room : (r.used.text ≤ min (length b.text) max_text) × (journal ≤ length b.journal)
           unfolding change_refusal no_room
@@ -114,7 +113,7 @@ module _ (sw : Switches) (words : ℕ) where
           judged_does lent text bytes t u tx jx =
               let j = judged.done v in
               shows_done sw words b lent (change_refusal sw words b new journal) r table r.nodes text bytes j.0
-              (j.1 ∙ ap (changed A.Done r.nodes) (sym u)) (subst (λ (l : List ℕ). TableIs sw words l table r.nodes) (sym t) j.2) tx jx
+              (j.1 ∙ ap (changed (Ok tt) r.nodes) (sym u)) (subst (λ (l : List ℕ). TableIs sw words l table r.nodes) (sym t) j.2) tx jx
 
 -- ---- the ways out, of a plan
 
@@ -155,7 +154,7 @@ module _ (p : Present) (plan : Plan) (text journal : List ℕ) (words : ℕ) (re
           front_new = let l = size_is in front_is size new before draft d size_is (omega arith)
 
           -- the present text is read again
-          pub try_16 : (f : Refusal) (again : ℕ) → answer_of (reading p.sw words (take size draft)) ≡ R.Refused f → again ≡ words
+          pub try_16 : (f : Refusal) (again : ℕ) → answer_of (reading p.sw words (take size draft)) ≡ Err f → again ≡ words
               → table ≡ table_of again (reading p.sw again (take p.used.text text)) → r ≡ refused_with 16 p.nodes p.used
               → Judges p plan text journal words replacement r table draft
           unfolding reads text_of
@@ -169,8 +168,8 @@ module _ (p : Present) (plan : Plan) (text journal : List ℕ) (words : ℕ) (re
                 table_is = t ∙ ap (λ (k : ℕ). table_of k (reading p.sw k (take p.used.text text))) a;
               })
 
-          pub try_done : (nodes : ℕ) → answer_of (reading p.sw words (take size draft)) ≡ R.Taken nodes
-              → table ≡ table_of words (reading p.sw words (take size draft)) → r ≡ changed A.Done nodes (in_use size plan.journal)
+          pub try_done : (nodes : ℕ) → answer_of (reading p.sw words (take size draft)) ≡ Ok nodes
+              → table ≡ table_of words (reading p.sw words (take size draft)) → r ≡ changed (Ok tt) nodes (in_use size plan.journal)
               → Judges p plan text journal words replacement r table draft
           unfolding reads
           try_done nodes e t q =

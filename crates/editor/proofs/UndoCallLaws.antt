@@ -1,5 +1,6 @@
 -- An undo: one law for each way out.
 -- Assumes nothing.
+use Rattle.std.specs.Prelude.{Ok, Err}
 use mathlib.Core.Path.{◌≡◌, refl, sym, ap, ap₂, ◌∙◌, subst}
 use Prim.Native.Nat.{ℕ, ◌-◌, ◌≤◌}
 use native.Mathlib.Omega.{arith}
@@ -9,22 +10,19 @@ use lib.Dec.{ltb, eqb}
 use lib.ListN.{length, take}
 use lib.Seq.{length-take-le}
 use borrow.Author.Tests.{le-ltb, eq-eqb, ne_eqb}
-use Rattle.text.specs.declared.refusal.Refusal.{Refusal}
+use Rattle.text.specs.Refusal.{Refusal}
 use Rattle.text.specs.declared.switches.Switches.{Switches}
 use Rattle.reader.specs.Reading.{reads}
 use Rattle.reader.specs.Content.{part}
 use Rattle.editor.specs.declared.journal.Trailer.{Trailer}
-use Rattle.editor.specs.declared.journal.Entry.TheVariants as E
-use Rattle.editor.specs.declared.change.Verdict.TheVariants as A
-use Rattle.editor.specs.declared.change.Change.{Change}
 use Rattle.editor.specs.declared.trial.Present.{Present}
-use Rattle.editor.specs.Edit.{Lent, lent_of, in_use, text_of, journal_of, splice, trailer_bytes, with_text, no_room, decided, entry_size, old_bytes, undone, with_undo, undo_refusal, undo}
+use Rattle.editor.specs.Edit.{Lent, lent_of, in_use, text_of, journal_of, splice, trailer_bytes, with_text, no_room, decided, entry_size, old_bytes, undone, with_undo, undo_refusal, undo, Change}
 use Rattle.editor.specs.Internal.{changed, Stopped, change_refusal, Within, Judged, last_entry, TrailerIs, undone_read}
 use Rattle.editor.proofs.SpliceLaws.{take_with_text}
 use Rattle.text.proofs.ListLaws.{part_of_front}
 use Rattle.editor.proofs.CallLaws.{Showing}
 use Rattle.editor.proofs.TrialLaws.{judged_refuses, judged_does}
-use Rattle.editor.proofs.LastEntryLaws.{nothing_says, bad_says, Good, good_says}
+use Rattle.editor.proofs.LastEntryLaws.{entry_number, nothing_says, bad_says, Good, good_says}
 
 module _ (p : Present) (text journal : List ℕ) (words : ℕ) (text_fits_law : p.used.text ≤ length text) (journal_fits_law : p.used.journal ≤ length journal) where
   abbrev b : Lent
@@ -44,7 +42,7 @@ module _ (p : Present) (text journal : List ℕ) (words : ℕ) (text_fits_law : 
   unfolding text_of
   text_length = length-take-le p.used.text text text_fits_law
 
-  pub refused_17 : last_entry J X ≡ E.Nothing → undo_refusal p.sw words b ≡ 17
+  pub refused_17 : last_entry J X ≡ (Err 17) → undo_refusal p.sw words b ≡ 17
   unfolding undo_refusal
   refused_17 e =
       let n = nothing_says J X e in
@@ -54,13 +52,16 @@ module _ (p : Present) (text journal : List ℕ) (words : ℕ) (text_fits_law : 
   journal_some : (length J ≡ 0 → ⊥) → eqb p.used.journal 0 ≡ false
   journal_some n = ne_eqb p.used.journal 0 (λ e. n (journal_length ∙ e))
 
-  pub refused_18 : last_entry J X ≡ E.Bad → undo_refusal p.sw words b ≡ 18
+  pub refused_18 : last_entry J X ≡ (Err 18) → undo_refusal p.sw words b ≡ 18
   unfolding undo_refusal
   refused_18 e =
       let n = bad_says J X e in
       rw (journal_some n.0, n.1)
 
-  pub trailer_is : (trailer : Trailer) → last_entry J X ≡ E.Good trailer → TrailerIs p text journal trailer
+  pub undo_refused_by : (n : ℕ) → last_entry J X ≡ Err n → undo_refusal p.sw words b ≡ n
+  undo_refused_by n e = entry_number J X n (λ k. undo_refusal p.sw words b ≡ k) e refused_17 refused_18
+
+  pub trailer_is : (trailer : Trailer) → last_entry J X ≡ Ok trailer → TrailerIs p text journal trailer
   trailer_is trailer e =
       let g = good_says J X trailer e in
       let l = journal_length in
@@ -112,13 +113,13 @@ module _ (p : Present) (text journal : List ℕ) (words : ℕ) (text_fits_law : 
         ∙ sym (rw (journal_some good.some, good.fine))
 
     module _ (r : Change) (table draft : List ℕ) (judged : Judged p.sw words b new (p.used.journal - trailer.size) r table draft) where
-      pub undo_refused : (f : Refusal) → r.verdict ≡ A.Refused f → Showing (undone_read p text journal words) r text journal table
+      pub undo_refused : (f : Refusal) → r.verdict ≡ Err f → Showing (undone_read p text journal words) r text journal table
       undo_refused f v =
           subst (λ (n : ℕ). Showing (decided p.sw words b n (with_undo b)) r text journal table) refusal_is
           (judged_refuses p.sw words b new (p.used.journal - trailer.size) r table draft judged (with_undo b) f v)
 
       -- the new text is written, and the entry is cut off
-      pub undo_done : (out : List ℕ) → r.verdict ≡ A.Done → out ≡ with_text p.used.text (take r.used.text draft) text
+      pub undo_done : (out : List ℕ) → r.verdict ≡ (Ok tt) → out ≡ with_text p.used.text (take r.used.text draft) text
           → Showing (undone_read p text journal words) r out journal table
       unfolding with_undo text_of
       undo_done out v tx =
@@ -133,6 +134,6 @@ module _ (p : Present) (text journal : List ℕ) (words : ℕ) (text_fits_law : 
 
 module _ (sw : Switches) (words : ℕ) (b : Lent) where
   pub undo_stops : (table : List ℕ) (f : Refusal) → Stopped sw words b table f
-      → Showing (undo sw words b) (changed (A.Refused f) 0 b.used) b.text b.journal table
+      → Showing (undo sw words b) (changed (Err f) 0 b.used) b.text b.journal table
   unfolding undo
   undo_stops table f s = s.shows _ _

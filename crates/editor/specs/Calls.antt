@@ -4,8 +4,7 @@
 use Rattle.std.specs.Prelude.{ℕ, ◌≡◌, List, [], ◌∷◌, map, length}
 use Rattle.text.specs.declared.switches.Switches.{Switches}
 use Rattle.editor.specs.declared.change.InUse.{InUse}
-use Rattle.editor.specs.declared.change.Change.{Change}
-use Rattle.editor.specs.Edit.{Lent, lent_of, Report, Left, Shows, change_of, text_of, journal_of}
+use Rattle.editor.specs.Edit.{Lent, lent_of, Report, Left, Shows, change_of, text_of, journal_of, Change}
 use Rattle.editor.specs.Book.{Call, Seen, called, book, room_of, Start}
 
 -- a call that was made: which it was, and what it left

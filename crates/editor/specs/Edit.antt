@@ -1,16 +1,16 @@
 -- Corrections and undo on the lent buffers (document 01, "Corrections"). The code answers with a struct of its own, src/change.rt:
 -- `change_of` gives it.
 -- Assumes nothing.
-use Rattle.std.specs.Prelude.{ℕ, ◌+◌, ◌-◌, ◌*◌, ◌/◌, ◌%◌, min, max, ◌≡◌, Bool, not, cond, ◌||◌, List, [], ◌∷◌, ◌++◌, leb, ltb, eqb, length, take, drop, get_or, replicate}
+use Rattle.std.specs.Prelude.{ℕ, ◌+◌, ◌-◌, ◌*◌, ◌/◌, ◌%◌, min, max, ◌≡◌, Bool, not, cond, ◌||◌, List, [], ◌∷◌, ◌++◌, leb, ltb, eqb, length, take, drop, get_or, replicate, Ok, Err}
+use Rattle.text.specs.Buffers.{overwritten}
 use Rattle.text.specs.declared.switches.Switches.{Switches}
 use Rattle.reader.specs.Syntax.{Outcome, taken, refused}
 use Rattle.reader.specs.Reading.{reading, reads, node_count, table_of, word_of, one_value, max_text}
 use Rattle.reader.specs.Content.{part}
-use Rattle.text.specs.Refusal.{refusal}
+use Rattle.text.specs.Refusal.{refusal, Refusal, told}
 use Rattle.editor.specs.declared.change.InUse.{InUse}
-use Rattle.editor.specs.declared.change.Verdict.{Verdict}
-use Rattle.editor.specs.declared.change.Verdict.TheVariants as A
-use Rattle.editor.specs.declared.change.Change.{Change}
+use Rattle.std.specs.declared.result.Result as Rust
+use Rattle.editor.specs.declared.change.Change as Code
 
 -- ---- what is lent, and what comes back
 
@@ -49,9 +49,18 @@ pub record Result : Type 0 where
   pub lent : Lent
   pub table : List ℕ
 
--- the code's answer: done where there is no refusal, or else document 01's number and place
-unfoldable pub verdict_of : (number place : ℕ) → Verdict
-verdict_of number place = cond (eqb number 0) A.Done (A.Refused (refusal number place))
+-- the code's answer, src/change.rt, its refusal by number and place
+pub record Change : Type 0 where
+  pub verdict : Rust.Result Unit Refusal
+  pub nodes : ℕ
+  pub used : InUse
+
+abbrev pub told_change : Code.Change → Change
+told_change c = record { verdict = told c.verdict; nodes = c.nodes; used = c.used }
+
+-- its verdict: done where there is no refusal, or else document 01's number and place
+unfoldable pub verdict_of : (number place : ℕ) → Rust.Result Unit Refusal
+verdict_of number place = cond (eqb number 0) (Ok tt) (Err (refusal number place))
 
 -- the code's answer with the node count and both lengths in use
 unfoldable pub change_of : Report → Change
@@ -117,10 +126,6 @@ entry start stop replacement text = part start stop text ++ trailer start (lengt
 -- the text buffer with a new text: "Bytes the text no longer uses become 0; later ones stay"
 unfoldable pub with_text : (used : ℕ) (new buffer : List ℕ) → List ℕ
 with_text used new buffer = new ++ (replicate (used - length new) 0 ++ drop (max used (length new)) buffer)
-
--- a buffer with bytes written over it from a place on. The journal gains an entry so: "Other journal bytes stay"
-unfoldable pub overwritten : (at : ℕ) (new buffer : List ℕ) → List ℕ
-overwritten at new buffer = take at buffer ++ (new ++ drop (at + length new) buffer)
 
 -- 14 "new length over the buffer or 65,536"
 unfoldable pub no_room : (new : List ℕ) (room : ℕ) → Bool
@@ -221,7 +226,8 @@ module _ (sw : Switches) (words : ℕ) where
       (cond (not (reads sw words (corrected node replacement (text_of b)))) 16
       0))))
 
-  -- "An accepted correction puts it in place of words 2 to 3, and the bytes after the replaced value move"
+  -- "An accepted correction puts it in place of words 2 to 3, and the bytes after the replaced value move". The journal gains its entry where
+  -- its bytes in use end: "Other journal bytes stay"
   unfoldable pub with_correction : Lent → (node : ℕ) (replacement : List ℕ) → Lent
   with_correction b node replacement =
       let new : List ℕ = corrected node replacement (text_of b) in

@@ -1,31 +1,25 @@
 -- What only the contracts of this crate's inner functions cite. Nothing below has to be believed: the public contracts don't name it.
 -- Assumes nothing.
-use Rattle.std.specs.Prelude.{ℕ, ◌+◌, ◌≤◌, ◌≡◌, true, not, cond, List, ltb, eqb, length, take}
-use Rattle.text.specs.declared.refusal.Refusal.{Refusal}
+use Rattle.std.specs.Prelude.{ℕ, ◌+◌, ◌≤◌, ◌≡◌, true, not, cond, List, ltb, eqb, length, take, Ok, Err}
+use Rattle.text.specs.Refusal.{Refusal, refusal}
 use Rattle.text.specs.declared.span.Span.{Span}
 use Rattle.text.specs.declared.switches.Switches.{Switches}
-use Rattle.text.specs.Refusal.{refusal}
-use Rattle.reader.specs.declared.read.Reading.{Reading}
-use Rattle.reader.specs.declared.read.Reading.TheVariants as R
 use Rattle.reader.specs.Reading.{reading, reads, node_count, table_of}
 use Rattle.editor.specs.declared.change.InUse.{InUse}
-use Rattle.editor.specs.declared.change.Verdict.{Verdict}
-use Rattle.editor.specs.declared.change.Verdict.TheVariants as A
-use Rattle.editor.specs.declared.change.Change.{Change}
+use Rattle.std.specs.declared.result.Result as Rust
 use Rattle.editor.specs.declared.trial.Present.{Present}
 use Rattle.editor.specs.declared.trial.Plan.{Plan}
 use Rattle.editor.specs.declared.journal.Trailer.{Trailer}
-use Rattle.editor.specs.declared.journal.Entry.{Entry}
-use Rattle.editor.specs.declared.journal.Entry.TheVariants as E
-use Rattle.editor.specs.Edit.{Lent, lent_of, in_use, text_of, journal_of, Result, leaving, Shows, change_of, bad_length, length_refused, once_read, decided, correction_refusal, with_correction, undo_refusal, with_undo, splice, entry, with_text, overwritten, no_room, trailer_bytes, entry_start, entry_new, entry_size, bad_entry}
+use Rattle.text.specs.Buffers.{overwritten}
+use Rattle.editor.specs.Edit.{Lent, lent_of, in_use, text_of, journal_of, Result, leaving, Shows, change_of, bad_length, length_refused, once_read, decided, correction_refusal, with_correction, undo_refusal, with_undo, splice, entry, with_text, no_room, trailer_bytes, entry_start, entry_new, entry_size, bad_entry, Change}
 
 -- a `Change` by its parts
-abbrev pub changed : Verdict → (nodes : ℕ) → InUse → Change
+abbrev pub changed : Rust.Result Unit Refusal → (nodes : ℕ) → InUse → Change
 changed verdict nodes used = record { verdict = verdict; nodes = nodes; used = used }
 
 -- a refusal at 0
 abbrev pub refused_with : (number nodes : ℕ) → InUse → Change
-refused_with number nodes used = changed (A.Refused (refusal number 0)) nodes used
+refused_with number nodes used = changed (Err (refusal number 0)) nodes used
 
 -- ---- a reading
 
@@ -53,15 +47,15 @@ opened sw words b refusal new = cond (bad_length b) (length_refused words b) (on
 
 -- 11, or a refused reading: the call's answer, whatever would come later
 pub record Stopped (sw : Switches) (words : ℕ) (b : Lent) (table : List ℕ) (f : Refusal) : Type 0 where
-  pub shows : (refusal : ℕ) (new : Lent) → Shows change_of (opened sw words b refusal new) (leaving (changed (A.Refused f) 0 b.used) b.text b.journal table)
+  pub shows : (refusal : ℕ) (new : Lent) → Shows change_of (opened sw words b refusal new) (leaving (changed (Err f) 0 b.used) b.text b.journal table)
 
 -- what a call knows once its text has been read, or that it is at its end
-abbrev pub OpensIs : Switches → (words : ℕ) → Lent → (table : List ℕ) → Reading → Type 0
-OpensIs sw words b table (R.Taken nodes) = ReadNow sw words b table nodes
-OpensIs sw words b table (R.Refused f) = Stopped sw words b table f
+abbrev pub OpensIs : Switches → (words : ℕ) → Lent → (table : List ℕ) → Rust.Result ℕ Refusal → Type 0
+OpensIs sw words b table (Ok nodes) = ReadNow sw words b table nodes
+OpensIs sw words b table (Err f) = Stopped sw words b table f
 
 -- the same, for an answer
-pub record Opens (sw : Switches) (words : ℕ) (b : Lent) (table : List ℕ) (r : Reading) : Type 0 where
+pub record Opens (sw : Switches) (words : ℕ) (b : Lent) (table : List ℕ) (r : Rust.Result ℕ Refusal) : Type 0 where
   pub is : OpensIs sw words b table r
 
 -- ---- a change on trial
@@ -82,13 +76,13 @@ pub record Within (present : Present) (span : Span) : Type 0 where
 -- a change was judged: refused, with the present text's reading in the table; or not, with the new text's, which stands at the front of
 -- the draft
 pub record Judged (sw : Switches) (words : ℕ) (b : Lent) (new : List ℕ) (journal : ℕ) (r : Change) (table draft : List ℕ) : Type 0 where
-  pub refused : (f : Refusal) → r.verdict ≡ A.Refused f
+  pub refused : (f : Refusal) → r.verdict ≡ Err f
       → (1 ≤ change_refusal sw words b new journal)
       × (r ≡ refused_with (change_refusal sw words b new journal) r.nodes b.used)
       × TableIs sw words (text_of b) table r.nodes
-  pub done : r.verdict ≡ A.Done
+  pub done : r.verdict ≡ (Ok tt)
       → (change_refusal sw words b new journal ≡ 0)
-      × (r ≡ changed A.Done r.nodes (in_use (length new) journal))
+      × (r ≡ changed (Ok tt) r.nodes (in_use (length new) journal))
       × TableIs sw words new table r.nodes
       × (take r.used.text draft ≡ new)
 
@@ -131,15 +125,15 @@ abbrev pub trailer_of : (start stop size : ℕ) → Trailer
 trailer_of start stop size = record { span = record { start = start; stop = stop }; size = size }
 
 -- 17, 18, or what the trailer says
-unfoldable pub last_entry : (journal text : List ℕ) → Entry
+unfoldable pub last_entry : (journal text : List ℕ) → Rust.Result Trailer ℕ
 last_entry journal text =
-    cond (eqb (length journal) 0) E.Nothing
-    (cond (bad_entry journal text) E.Bad
-    (E.Good (trailer_of (entry_start journal) (entry_start journal + entry_new journal) (entry_size journal))))
+    cond (eqb (length journal) 0) (Err 17)
+    (cond (bad_entry journal text) (Err 18)
+    (Ok (trailer_of (entry_start journal) (entry_start journal + entry_new journal) (entry_size journal))))
 
 -- this is the trailer of the journal's last entry, which is good
 pub record TrailerIs (p : Present) (text journal : List ℕ) (trailer : Trailer) : Type 0 where
-  pub is : last_entry (journal_of (lent_of text journal p.used)) (text_of (lent_of text journal p.used)) ≡ E.Good trailer
+  pub is : last_entry (journal_of (lent_of text journal p.used)) (text_of (lent_of text journal p.used)) ≡ Ok trailer
   pub forwards : trailer.span.start ≤ trailer.span.stop
   pub ends : trailer.span.stop ≤ p.used.text
   pub least : trailer_bytes ≤ trailer.size

@@ -1,30 +1,18 @@
 // Bytes put into lent buffers: over what stands there, from a place on.
 ghost use Rattle.std.specs.Prelude.{◌≡◌, ◌≤◌, ◌+◌, ◌-◌, length, replicate};
-ghost use Rattle.editor.specs.Edit.{splice, with_text, overwritten};
+ghost use Rattle.text.specs.Buffers.{overwritten};
+ghost use Rattle.editor.specs.Edit.{splice, with_text};
 
+pub(crate) use text::buffers::put_at;
 use text::span::Span;
-
-// Writes the bytes of `src` over those of `dst` from `at` on.
-pub(crate) fn put_at(src: &[u8], dst: &mut [u8], at: usize)
-    requires { at + length src.now ≤ length dst.old }
-    ensures { dst.new ≡ overwritten at src.now dst.old }
-{
-    let mut i = 0;
-    while i < src.len() {
-        dst[at + i] = src[i];
-        i += 1;
-    }
-}
 
 // Makes the bytes of `dst` from `from` to before `to` zero. If there are none between, it changes nothing.
 fn zero_out(dst: &mut [u8], from: usize, to: usize)
     requires { to ≤ length dst.old }
     ensures { dst.new ≡ overwritten from (replicate (to - from) 0) dst.old }
 {
-    let mut i = from;
-    while i < to {
-        dst[i] = 0;
-        i += 1;
+    if from < to {
+        dst[from..to].fill(0);
     }
 }
 
@@ -42,9 +30,7 @@ pub(crate) fn put_splice(text: &[u8], span: Span, replacement: &[u8], dst: &mut 
     requires { (span.start ≤ span.stop) × (span.stop ≤ length text.now) × (span.start + length replacement.now + (length text.now - span.stop) ≤ length dst.old) }
     ensures { dst.new ≡ overwritten 0 (splice span.start span.stop replacement.now text.now) dst.old }
 {
-    let start = span.start;
-    let stop = span.stop;
-    put_at(&text[..start], dst, 0);
-    put_at(replacement, dst, start);
-    put_at(&text[stop..], dst, start + replacement.len());
+    put_at(&text[..span.start], dst, 0);
+    put_at(replacement, dst, span.start);
+    put_at(&text[span.stop..], dst, span.start + replacement.len());
 }

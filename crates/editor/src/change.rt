@@ -8,17 +8,10 @@ pub struct InUse {
     pub journal: usize,
 }
 
-// It was done, or refused.
-#[derive(Clone, Copy)]
-pub enum Verdict {
-    Done,
-    Refused(Refusal),
-}
-
-// With it the node count of the text as it then stands, and the lengths in use.
+// Whether it was done or refused, the node count of the text as it then stands, and the lengths in use.
 #[derive(Clone, Copy)]
 pub struct Change {
-    pub verdict: Verdict,
+    pub verdict: Result<(), Refusal>,
     pub nodes: usize,
     pub used: InUse,
 }

@@ -1,38 +1,41 @@
 // Correction of one value, and undo, on lent buffers.
-ghost use Rattle.std.specs.Prelude.{◌≡◌, length, replicate};
-ghost use Rattle.text.specs.Refusal.{refusal};
+ghost use Rattle.std.specs.Prelude.{◌≡◌, length, replicate, Err};
+ghost use Rattle.text.specs.Refusal.{refusal, told};
 ghost use Rattle.text.specs.Switches.{present_edition};
-ghost use Rattle.reader.specs.declared.read.Reading.TheVariants as R;
-ghost use Rattle.editor.specs.Edit.{lent_of, leaving, Shows, change_of, correct, undo};
+ghost use Rattle.editor.specs.Edit.{lent_of, leaving, Shows, change_of, told_change, correct, undo};
 ghost use Rattle.editor.specs.Internal.{Opens, Knows, Within, replaced, corrected_read, TrailerIs, undone_read};
 
 use crate::buffers::put_text;
-use crate::change::{Change, InUse, Verdict};
-use crate::journal::{Entry, TRAILER_BYTES, Trailer, last_entry, put_entry};
+use crate::change::{Change, InUse};
+use crate::journal::{TRAILER_BYTES, Trailer, last_entry, put_entry};
 use crate::trial::{Plan, Present, refused, try_change};
-use reader::read::{Reading, one_value, read_edition};
+use reader::read::{one_value, read_edition};
 use reader::rows;
 use reader::rows::{clear, word_of};
-use text::refusal::{
-    BAD_ENTRY, LENGTH_IN_USE, NO_SUCH_NODE, NOT_ONE_VALUE, NOTHING_TO_UNDO, Refusal,
-};
+use text::refusal::{Reason, Refusal};
 use text::span::{MAX_TEXT, Span};
 use text::switches::{Switches, present};
 
 // 11, and every word of the table 0.
-fn refuse_lengths(table: &mut [u32]) -> Reading
-    ensures { (result ≡ R.Refused (refusal 11 0)) × (table.new ≡ replicate (length table.old) 0) }
+fn refuse_lengths(table: &mut [u32]) -> Result<usize, Refusal>
+    ensures { (told result ≡ Err (refusal 11 0)) × (table.new ≡ replicate (length table.old) 0) }
 {
     clear(table);
-    Reading::Refused(Refusal {
-        number: LENGTH_IN_USE,
+    Err(Refusal {
+        reason: Reason::LengthInUse,
         place: 0,
     })
 }
 
 // What every call begins with: the lengths in use are within their buffers, and the text in use is read into the table.
-fn open_text(sw: Switches, text: &[u8], journal: &[u8], used: InUse, table: &mut [u32]) -> Reading
-    ensures { Opens sw (length table.old) (lent_of text.now journal.now used) table.new result }
+fn open_text(
+    sw: Switches,
+    text: &[u8],
+    journal: &[u8],
+    used: InUse,
+    table: &mut [u32],
+) -> Result<usize, Refusal>
+    ensures { Opens sw (length table.old) (lent_of text.now journal.now used) table.new (told result) }
 {
     if text.len() < used.text {
         return refuse_lengths(table);
@@ -40,8 +43,7 @@ fn open_text(sw: Switches, text: &[u8], journal: &[u8], used: InUse, table: &mut
     if journal.len() < used.journal {
         return refuse_lengths(table);
     }
-    let text_used = used.text;
-    read_edition(sw, &text[..text_used], table)
+    read_edition(sw, &text[..used.text], table)
 }
 
 // Puts the replacement in place of the bytes of the span, and an entry that takes it back into the journal, if there is room and the new
@@ -56,7 +58,7 @@ fn replace(
 ) -> Change
     requires knows { Knows present text.old journal.old table.old }
     requires within { Within present span }
-    ensures { Shows change_of (replaced present text.old journal.old (length table.old) span replacement.now) (leaving result text.new journal.new table.new) }
+    ensures { Shows change_of (replaced present text.old journal.old (length table.old) span replacement.now) (leaving (told_change result) text.new journal.new table.new) }
 {
     let text_used = present.used.text;
     let journal_used = present.used.journal;
@@ -68,8 +70,8 @@ fn replace(
     let change = try_change(present, text, journal, table, plan, replacement, &mut draft);
     let verdict = change.verdict;
     match verdict {
-        Verdict::Refused(_) => change,
-        Verdict::Done => {
+        Err(_) => change,
+        Ok(()) => {
             let new = change.used.text;
             put_entry(
                 journal,
@@ -94,14 +96,14 @@ fn correct_read(
     replacement: &[u8],
 ) -> Change
     requires { Knows present text.old journal.old table.old }
-    ensures { Shows change_of (corrected_read present text.old journal.old (length table.old) node replacement.now) (leaving result text.new journal.new table.new) }
+    ensures { Shows change_of (corrected_read present text.old journal.old (length table.old) node replacement.now) (leaving (told_change result) text.new journal.new table.new) }
 {
     if present.nodes <= node {
-        return refused(present, NO_SUCH_NODE);
+        return refused(present, Reason::NoSuchNode);
     }
     let sw = present.sw;
     if !one_value(sw, 0 < node, replacement) {
-        return refused(present, NOT_ONE_VALUE);
+        return refused(present, Reason::NotOneValue);
     }
     let span = Span {
         start: word_of(table, node, rows::START),
@@ -120,15 +122,15 @@ pub(crate) fn correct_edition(
     node: usize,
     replacement: &[u8],
 ) -> Change
-    ensures { Shows change_of (correct sw (length table.old) (lent_of text.old journal.old used) node replacement.now) (leaving result text.new journal.new table.new) }
+    ensures { Shows change_of (correct sw (length table.old) (lent_of text.old journal.old used) node replacement.now) (leaving (told_change result) text.new journal.new table.new) }
 {
     match open_text(sw, text, journal, used, table) {
-        Reading::Refused(refusal) => Change {
-            verdict: Verdict::Refused(refusal),
+        Err(refusal) => Change {
+            verdict: Err(refusal),
             nodes: 0,
             used,
         },
-        Reading::Taken(nodes) => {
+        Ok(nodes) => {
             let present = Present { sw, used, nodes };
             correct_read(present, text, journal, table, node, replacement)
         }
@@ -144,7 +146,7 @@ pub fn correct(
     node: usize,
     replacement: &[u8],
 ) -> Change
-    ensures { Shows change_of (correct present_edition (length table.old) (lent_of text.old journal.old used) node replacement.now) (leaving result text.new journal.new table.new) }
+    ensures { Shows change_of (correct present_edition (length table.old) (lent_of text.old journal.old used) node replacement.now) (leaving (told_change result) text.new journal.new table.new) }
 {
     correct_edition(present(), text, journal, used, table, node, replacement)
 }
@@ -159,7 +161,7 @@ fn undo_entry(
 ) -> Change
     requires knows { Knows present text.old journal.now table.old }
     requires trailer_is { TrailerIs present text.old journal.now trailer }
-    ensures { Shows change_of (undone_read present text.old journal.now (length table.old)) (leaving result text.new journal.now table.new) }
+    ensures { Shows change_of (undone_read present text.old journal.now (length table.old)) (leaving (told_change result) text.new journal.now table.new) }
 {
     let text_used = present.used.text;
     let journal_used = present.used.journal;
@@ -178,8 +180,8 @@ fn undo_entry(
     );
     let verdict = change.verdict;
     match verdict {
-        Verdict::Refused(_) => change,
-        Verdict::Done => {
+        Err(_) => change,
+        Ok(()) => {
             let new = change.used.text;
             put_text(text, text_used, &draft[..new]);
             change
@@ -190,14 +192,13 @@ fn undo_entry(
 // An undo once the present text has been read: there is an entry, and it is good.
 fn undo_read(present: Present, text: &mut [u8], journal: &[u8], table: &mut [u32]) -> Change
     requires { Knows present text.old journal.now table.old }
-    ensures { Shows change_of (undone_read present text.old journal.now (length table.old)) (leaving result text.new journal.now table.new) }
+    ensures { Shows change_of (undone_read present text.old journal.now (length table.old)) (leaving (told_change result) text.new journal.now table.new) }
 {
     let text_used = present.used.text;
     let journal_used = present.used.journal;
     match last_entry(&journal[..journal_used], &text[..text_used]) {
-        Entry::Nothing => refused(present, NOTHING_TO_UNDO),
-        Entry::Bad => refused(present, BAD_ENTRY),
-        Entry::Good(trailer) => undo_entry(present, text, journal, table, trailer),
+        Ok(trailer) => undo_entry(present, text, journal, table, trailer),
+        Err(reason) => refused(present, reason),
     }
 }
 
@@ -210,15 +211,15 @@ pub(crate) fn undo_edition(
     used: InUse,
     table: &mut [u32],
 ) -> Change
-    ensures { Shows change_of (undo sw (length table.old) (lent_of text.old journal.now used)) (leaving result text.new journal.now table.new) }
+    ensures { Shows change_of (undo sw (length table.old) (lent_of text.old journal.now used)) (leaving (told_change result) text.new journal.now table.new) }
 {
     match open_text(sw, text, journal, used, table) {
-        Reading::Refused(refusal) => Change {
-            verdict: Verdict::Refused(refusal),
+        Err(refusal) => Change {
+            verdict: Err(refusal),
             nodes: 0,
             used,
         },
-        Reading::Taken(nodes) => {
+        Ok(nodes) => {
             let present = Present { sw, used, nodes };
             undo_read(present, text, journal, table)
         }
@@ -227,7 +228,7 @@ pub(crate) fn undo_edition(
 
 // The same for a text of the present edition.
 pub fn undo(text: &mut [u8], journal: &[u8], used: InUse, table: &mut [u32]) -> Change
-    ensures { Shows change_of (undo present_edition (length table.old) (lent_of text.old journal.now used)) (leaving result text.new journal.now table.new) }
+    ensures { Shows change_of (undo present_edition (length table.old) (lent_of text.old journal.now used)) (leaving (told_change result) text.new journal.now table.new) }
 {
     undo_edition(present(), text, journal, used, table)
 }

@@ -1,29 +1,23 @@
 // The journal: numbers of 32 bits, low byte first, and entries.
 ghost use Rattle.std.specs.Prelude.{◌≡◌, ◌≤◌, ◌<◌, ◌+◌, ◌++◌, length, drop};
-ghost use Rattle.editor.specs.Edit.{le32, from_le32, trailer, trailer_bytes, overwritten};
+ghost use Rattle.text.specs.Buffers.{overwritten};
+ghost use Rattle.text.specs.Refusal.{numbered};
+ghost use Rattle.editor.specs.Edit.{le32, from_le32, trailer, trailer_bytes};
 ghost use Rattle.editor.specs.Internal.{last_entry};
 
 use crate::buffers::put_at;
+use text::refusal::Reason;
 use text::span::Span;
 
 // The bytes of a trailer: three numbers of four bytes each.
 pub(crate) const TRAILER_BYTES: usize = 12;
-
-fn wide(byte: u8) -> usize
-    ensures { (result ≡ byte) × (result < 256) }
-{
-    byte as usize
-}
 
 // Writes the four low bytes of a number over those of `dst` from `at` on.
 fn put_number(dst: &mut [u8], at: usize, number: usize)
     requires { at + 4 ≤ length dst.old }
     ensures { dst.new ≡ overwritten at (le32 number) dst.old }
 {
-    dst[at] = (number % 256) as u8;
-    dst[at + 1] = (number / 256 % 256) as u8;
-    dst[at + 2] = (number / 65536 % 256) as u8;
-    dst[at + 3] = (number / 16777216 % 256) as u8;
+    put_at(&number.to_le_bytes()[..4], dst, at);
 }
 
 // The number that stands in four bytes from `at` on.
@@ -31,7 +25,7 @@ fn number_at(s: &[u8], at: usize) -> usize
     requires { at + 4 ≤ length s.now }
     ensures { (result ≡ from_le32 (drop at s.now)) × (result < 4294967296) }
 {
-    wide(s[at]) + wide(s[at + 1]) * 256 + wide(s[at + 2]) * 65536 + wide(s[at + 3]) * 16777216
+    u32::from_le_bytes([s[at], s[at + 1], s[at + 2], s[at + 3]]) as usize
 }
 
 // Writes an entry from `at` on: the old bytes, then the trailer with `start`, the replacement's length `new`, and the entry's own length.
@@ -53,38 +47,30 @@ pub(crate) struct Trailer {
     pub size: usize,
 }
 
-// The last entry of a journal in use, against the text in use: there is none, or it is bad, or it is good.
-#[derive(Clone, Copy)]
-pub(crate) enum Entry {
-    Nothing,
-    Bad,
-    Good(Trailer),
-}
-
 // Reads the trailer at the end of a journal in use, and judges it.
-pub(crate) fn last_entry(journal: &[u8], text: &[u8]) -> Entry
-    ensures { result ≡ last_entry journal.now text.now }
+pub(crate) fn last_entry(journal: &[u8], text: &[u8]) -> Result<Trailer, Reason>
+    ensures { numbered result ≡ last_entry journal.now text.now }
 {
     let length = journal.len();
     if length == 0 {
-        return Entry::Nothing;
+        return Err(Reason::NothingToUndo);
     }
     if length < TRAILER_BYTES {
-        return Entry::Bad;
+        return Err(Reason::BadEntry);
     }
     let at = length - TRAILER_BYTES;
     let size = number_at(journal, at + 8);
     if size < TRAILER_BYTES {
-        return Entry::Bad;
+        return Err(Reason::BadEntry);
     }
     if length < size {
-        return Entry::Bad;
+        return Err(Reason::BadEntry);
     }
     let start = number_at(journal, at);
     let stop = start + number_at(journal, at + 4);
     if text.len() < stop {
-        return Entry::Bad;
+        return Err(Reason::BadEntry);
     }
     let span = Span { start, stop };
-    Entry::Good(Trailer { span, size })
+    Ok(Trailer { span, size })
 }

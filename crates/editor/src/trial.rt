@@ -1,12 +1,14 @@
 // A change on trial: the new text is put together apart from the present one, and read.
-ghost use Rattle.std.specs.Prelude.{◌≡◌, ◌≤◌, min, length};
+ghost use Rattle.std.specs.Prelude.{◌≡◌, ◌≤◌, length};
 ghost use Rattle.reader.specs.Reading.{max_text};
+ghost use Rattle.text.specs.Refusal.{number_of};
+ghost use Rattle.editor.specs.Edit.{told_change};
 ghost use Rattle.editor.specs.Internal.{refused_with, Knows, Within, Judges};
 
 use crate::buffers::put_splice;
-use crate::change::{Change, InUse, Verdict};
-use reader::read::{Reading, read_edition};
-use text::refusal::{JOURNAL_FULL, Refusal, TEXT_FULL, UNREADABLE};
+use crate::change::{Change, InUse};
+use reader::read::read_edition;
+use text::refusal::{Reason, Refusal};
 use text::span::{MAX_TEXT, Span};
 use text::switches::Switches;
 
@@ -26,24 +28,14 @@ pub(crate) struct Plan {
 }
 
 // A refusal at 0, with nothing changed.
-pub(crate) fn refused(present: Present, number: u8) -> Change
-    ensures { result ≡ refused_with number present.nodes present.used }
+pub(crate) fn refused(present: Present, reason: Reason) -> Change
+    ensures { told_change result ≡ refused_with (number_of reason) present.nodes present.used }
 {
-    let used = present.used;
     Change {
-        verdict: Verdict::Refused(Refusal { number, place: 0 }),
+        verdict: Err(Refusal { reason, place: 0 }),
         nodes: present.nodes,
-        used,
+        used: present.used,
     }
-}
-
-fn lesser(a: usize, b: usize) -> usize
-    ensures { result ≡ min a b }
-{
-    if a < b {
-        return a;
-    }
-    b
 }
 
 // Judges a change: there is room for the new text and in the journal, and the new text reads. Then it stands at the front of `draft`, and
@@ -60,31 +52,31 @@ pub(crate) fn try_change(
     requires knows { Knows present text.now journal.now table.old }
     requires within { Within present plan.span }
     requires max_text_in_bounds { max_text ≤ length draft.old }
-    ensures { Judges present plan text.now journal.now (length table.old) replacement.now result table.new draft.new }
+    ensures { Judges present plan text.now journal.now (length table.old) replacement.now (told_change result) table.new draft.new }
 {
     let sw = present.sw;
     let text_used = present.used.text;
     let span = plan.span;
     let new = span.start + replacement.len() + (text_used - span.stop);
-    if lesser(text.len(), MAX_TEXT) < new {
-        return refused(present, TEXT_FULL);
+    if text.len().min(MAX_TEXT) < new {
+        return refused(present, Reason::TextFull);
     }
     if journal.len() < plan.journal {
-        return refused(present, JOURNAL_FULL);
+        return refused(present, Reason::JournalFull);
     }
     put_splice(&text[..text_used], span, replacement, draft);
     match read_edition(sw, &draft[..new], table) {
-        Reading::Taken(nodes) => Change {
-            verdict: Verdict::Done,
+        Ok(nodes) => Change {
+            verdict: Ok(()),
             nodes,
             used: InUse {
                 text: new,
                 journal: plan.journal,
             },
         },
-        Reading::Refused(_) => {
-            read_edition(sw, &text[..text_used], table);
-            refused(present, UNREADABLE)
+        Err(_) => {
+            let _read = read_edition(sw, &text[..text_used], table);
+            refused(present, Reason::Unreadable)
         }
     }
 }

@@ -1,6 +1,6 @@
 // What is printed of a text and a path.
 use console::lines;
-use path::find::{Found, find};
+use path::find::find;
 use reader::rows;
 use reader::rows::word_of;
 use reader::tree::MAX_NODES;
@@ -21,9 +21,9 @@ fn print_node(rt: &HostRuntime, table: &[u32], n: usize) {
 pub(crate) fn print(rt: &HostRuntime, text: &[u8], path: &[u8]) {
     let mut table = [0u32; rows::NODE_WORDS * MAX_NODES];
     match find(text, &mut table, path) {
-        Found::At(n) => print_node(rt, &table, n),
-        Found::Refused(refusal) => {
-            lines::refused(rt, refusal.number, refusal.place);
+        Ok(n) => print_node(rt, &table, n),
+        Err(refusal) => {
+            lines::refused(rt, refusal.reason.number(), refusal.place);
         }
     }
 }

@@ -27,10 +27,7 @@ fn main(rt: HostRuntime) {
         return;
     }
     let mut buffer = [0u8; input::TEXT_ROOM];
-    let got = input::fill_named(&rt, 1, &mut buffer);
-    if !got.is_read {
-        return;
+    if let Some(n) = input::fill_named(&rt, 1, &mut buffer) {
+        ask(&rt, &buffer[..n]);
     }
-    let n = got.count;
-    ask(&rt, &buffer[..n]);
 }

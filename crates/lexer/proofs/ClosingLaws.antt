@@ -1,22 +1,23 @@
 -- The machines that find the end of a string and of a comment: what they count, and that they stay where they have ended.
 -- Assumes nothing.
-use mathlib.Core.Path.{◌≡◌, refl, ap, ◌∙◌, subst}
-use Prim.Native.Nat.{ℕ, suc, ◌+◌, ◌-◌, ◌*◌, ◌≤◌}
+use mathlib.Core.Path.{◌≡◌, refl, sym, ap, ◌∙◌, subst}
+use Prim.Native.Nat.{ℕ, suc, ◌+◌, ◌-◌, ◌*◌, ◌≤◌, ◌<◌}
 use native.Mathlib.Omega.{arith}
 use mathlib.Core.Bool.{Bool, true, false, not, cond, ◌&&◌, ◌||◌, false≢true}
+use Rattle.std.specs.Prelude.{Some, None}
 use mathlib.Core.List.{List, [], ◌∷◌}
 use lib.Dec.{eqb, eqb→eq, T}
-use lib.ListN.{length, drop}
+use lib.ListN.{length, drop, get_or}
 use lib.Seq.{drop-drop}
 use Rattle.text.specs.Bytes.{feed, front, is}
 use Rattle.text.proofs.Choice.{cond_both}
-use Rattle.text.proofs.FeedLaws.{feed_stays, feed_le}
+use Rattle.text.proofs.FeedLaws.{feed_turn, feed_done, feed_stays, feed_le}
 use Rattle.lexer.specs.declared.closing.Closing.{Closing}
 use Rattle.lexer.specs.declared.closing.Closing.TheVariants as C
 use Rattle.lexer.specs.declared.closing.Block.{Block}
 use Rattle.lexer.specs.declared.closing.Block.TheVariants as B
 use Rattle.lexer.specs.Closing.{after_quote, after_other, closing_step, closing, block_step, block}
-use Rattle.lexer.specs.Internal.{closing_read, is_closed, block_read, is_shut}
+use Rattle.lexer.specs.Internal.{closing_read, closed_at, block_read, shut_at}
 
 -- ---- the end of a string
 
@@ -26,6 +27,20 @@ closing_bytes (C.Inside n) = n
 closing_bytes (C.Escaped n) = n
 closing_bytes (C.Closed n) = n
 closing_bytes (C.Hashes j n) = n
+
+-- the string has ended
+unfoldable pub is_closed : Closing → Bool
+is_closed (C.Inside n) = false
+is_closed (C.Escaped n) = false
+is_closed (C.Hashes j n) = false
+is_closed (C.Closed n) = true
+
+pub closed_told : (c : Closing) (n : ℕ) → closed_at c ≡ Some n → c ≡ C.Closed n
+unfolding closed_at
+closed_told (C.Inside m) n e = cc
+closed_told (C.Escaped m) n e = cc
+closed_told (C.Hashes j m) n e = cc
+closed_told (C.Closed m) n e = cc
 
 -- what a closing shows of its hashes: they were read after a quote
 unfoldable Held : (k : ℕ) → Closing → Type 0
@@ -124,6 +139,24 @@ module _ (escapes : Bool) (k : ℕ) where
   pub closed_stays : (c : Closing) → is_closed c ≡ true → (l : List ℕ) → feed (closing_step escapes k) c l ≡ c
   closed_stays c e l = feed_stays (closing_step escapes k) c (closed_step c e) l
 
+  -- the ways out of a loop that has read up to i
+  pub closing_ended : (s text : List ℕ) (i : ℕ) (c next : Closing) (n : ℕ) → closing escapes k s ≡ feed (closing_step escapes k) c (drop i text) → i < length text
+      → next ≡ closing_step escapes k c (get_or text i 0) → next ≡ C.Closed n → Some n ≡ closed_at (closing escapes k s)
+  unfolding closed_at is_closed
+  closing_ended s text i c next n e h t d =
+      rw (e ∙ feed_turn (closing_step escapes k) c next text i h t ∙ ap (λ (x : Closing). feed (closing_step escapes k) x (drop (i + 1) text)) d ∙ closed_stays (C.Closed n) refl _)
+
+  pub closing_open : (s text : List ℕ) (i : ℕ) (c : Closing) → closing escapes k s ≡ feed (closing_step escapes k) c (drop i text) → length text ≤ i
+      → closed_at c ≡ None → None ≡ closed_at (closing escapes k s)
+  closing_open s text i c e h o = sym (ap closed_at (e ∙ feed_done (closing_step escapes k) c text i h) ∙ o)
+
+pub not_closed : (c : Closing) → ((n : ℕ) → c ≡ C.Closed n → ⊥) → closed_at c ≡ None
+unfolding closed_at
+not_closed (C.Inside n) f = refl
+not_closed (C.Escaped n) f = refl
+not_closed (C.Hashes j n) f = refl
+not_closed (C.Closed n) f = absurd (f n refl)
+
 -- ---- bytes that are neither a quote nor a backslash
 
 -- the same test as in the contract of `plain_end`
@@ -200,17 +233,29 @@ block_counts (B.Starred n) b =
     (λ _. cond_both (λ (c : Block). block_read c ≤ suc n) (is "*" b) (λ _. omega arith) (λ _. omega arith))
 block_counts (B.Closed n) b = omega arith
 
-pub block_turn : (c next : Block) (b from i : ℕ) → next ≡ block_step c b → block_read c + from ≤ i → block_read next + from ≤ i + 1
-block_turn c next b from i e h = let n = block_counts c b in rw e (omega arith)
+pub block_turn : (c next : Block) (b i : ℕ) → next ≡ block_step c b → block_read c ≤ i → block_read next ≤ i + 1
+block_turn c next b i e h = let n = block_counts c b in rw e (omega arith)
 
 pub block_le : (s : List ℕ) → block_read (block s) ≤ length s
 unfolding block block_read
 block_le s = let h = feed_le block_read block_step block_counts (B.Inside 0) s in omega arith
 
+-- the comment has ended
+unfoldable pub is_shut : Block → Bool
+is_shut (B.Inside n) = false
+is_shut (B.Starred n) = false
+is_shut (B.Closed n) = true
+
+pub shut_told : (c : Block) (n : ℕ) → shut_at c ≡ Some n → c ≡ B.Closed n
+unfolding shut_at
+shut_told (B.Inside m) n e = cc
+shut_told (B.Starred m) n e = cc
+shut_told (B.Closed m) n e = cc
+
 -- a comment ends within the text
-pub shut_le : (s : List ℕ) (n : ℕ) → block s ≡ B.Closed n → n ≤ length s
+pub shut_le : (s : List ℕ) (n : ℕ) → shut_at (block s) ≡ Some n → n ≤ length s
 unfolding block_read
-shut_le s n e = let h = block_le s in let f = ap block_read e in omega arith
+shut_le s n e = let h = block_le s in let f = ap block_read (shut_told (block s) n e) in omega arith
 
 pub shut_step : (c : Block) → is_shut c ≡ true → (b : ℕ) → block_step c b ≡ c
 unfolding block_step is_shut
@@ -220,3 +265,20 @@ shut_step (B.Closed n) e b = refl
 
 pub shut_stays : (c : Block) → is_shut c ≡ true → (l : List ℕ) → feed block_step c l ≡ c
 shut_stays c e l = feed_stays block_step c (shut_step c e) l
+
+-- the ways out of a loop that has read up to i
+pub block_ended : (s text : List ℕ) (i : ℕ) (c next : Block) (n : ℕ) → block s ≡ feed block_step c (drop i text) → i < length text
+    → next ≡ block_step c (get_or text i 0) → next ≡ B.Closed n → Some n ≡ shut_at (block s)
+unfolding shut_at is_shut
+block_ended s text i c next n e h t d =
+    rw (e ∙ feed_turn block_step c next text i h t ∙ ap (λ (x : Block). feed block_step x (drop (i + 1) text)) d ∙ shut_stays (B.Closed n) refl _)
+
+pub block_open : (s text : List ℕ) (i : ℕ) (c : Block) → block s ≡ feed block_step c (drop i text) → length text ≤ i → shut_at c ≡ None
+    → None ≡ shut_at (block s)
+block_open s text i c e h o = sym (ap shut_at (e ∙ feed_done block_step c text i h) ∙ o)
+
+pub not_shut : (c : Block) → ((n : ℕ) → c ≡ B.Closed n → ⊥) → shut_at c ≡ None
+unfolding shut_at
+not_shut (B.Inside n) f = refl
+not_shut (B.Starred n) f = refl
+not_shut (B.Closed n) f = absurd (f n refl)

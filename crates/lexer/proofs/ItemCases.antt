@@ -18,8 +18,10 @@ use Rattle.text.proofs.Choice.{cond_both, both_left, both_right}
 use Rattle.literals.specs.declared.decoder.Body.{Body}
 use Rattle.literals.specs.declared.decoder.Body.TheVariants as Y
 use Rattle.literals.specs.Content.{content_of}
-use Rattle.literals.specs.declared.number.Meaning.{Meaning}
-use Rattle.literals.specs.declared.number.Meaning.TheVariants as N
+use Rattle.literals.specs.Number.{Meaning}
+use Rattle.std.specs.declared.result.Result.TheVariants.{Ok, Err}
+use Rattle.literals.specs.declared.number.NumberValue.TheVariants as N
+use Rattle.literals.specs.declared.number.NumberError.TheVariants as E
 use Rattle.literals.specs.Number.{number}
 use Rattle.literals.specs.Word.{has_shape}
 use Rattle.lexer.specs.declared.closing.Closing.{Closing}
@@ -72,8 +74,8 @@ pub record Cases (sw : Switches) (b : ℕ) (s : List ℕ) (P : Item → Type 0) 
   pub of_word : P (token (word (b ∷ take (front is_word_byte s) s)) (front is_word_byte s))
   pub of_string : (isText : Bool) (body : Body) (head k m : ℕ) (c : List ℕ) → closing (has_escapes body) k (drop head s) ≡ C.Closed m
       → head + m ≤ length s → content_of sw isText body (take (m - suc k) (drop head s)) ≡ some c → P (token (string_form isText c) (head + m))
-  pub of_integer : (z : ℤ) → number (b ∷ take (front is_number_byte s) s) ≡ N.Integer z → P (token (integer z) (front is_number_byte s))
-  pub of_decimal : (minus : Bool) (m : ℕ) (p : ℤ) → number (b ∷ take (front is_number_byte s) s) ≡ N.Decimal minus m p
+  pub of_integer : (z : ℤ) → number (b ∷ take (front is_number_byte s) s) ≡ Ok (N.Integer z) → P (token (integer z) (front is_number_byte s))
+  pub of_decimal : (minus : Bool) (m : ℕ) (p : ℤ) → number (b ∷ take (front is_number_byte s) s) ≡ Ok (N.Decimal minus m p)
       → P (token (decimal minus m p) (front is_number_byte s))
   pub of_fault : (n : ℕ) → OwnFault n → P (fault n)
 
@@ -126,10 +128,10 @@ module _ (sw : Switches) (b : ℕ) (s : List ℕ) (P : Item → Type 0) (X : Cas
 
   meant_case : (m : Meaning) → number (b ∷ take (front is_number_byte s) s) ≡ m → P (meant_item (front is_number_byte s) m)
   unfolding meant_item
-  meant_case (N.Integer z) e = X.of_integer z e
-  meant_case (N.Decimal minus m p) e = X.of_decimal minus m p e
-  meant_case N.Malformed e = malformed
-  meant_case N.TooWide e = X.of_fault 5 (omega arith, omega arith)
+  meant_case (Ok (N.Integer z)) e = X.of_integer z e
+  meant_case (Ok (N.Decimal minus m p)) e = X.of_decimal minus m p e
+  meant_case (Err E.Malformed) e = malformed
+  meant_case (Err E.TooWide) e = X.of_fault 5 (omega arith, omega arith)
 
   number_case : P (number_item b s)
   unfolding number_item

@@ -19,9 +19,8 @@ use Rattle.literals.specs.Number.{number}
 use Rattle.lexer.specs.declared.closing.Closing.{Closing}
 use Rattle.lexer.specs.declared.closing.Closing.TheVariants as C
 use Rattle.lexer.specs.Closing.{after_other, closing_step, closing}
-use Rattle.lexer.specs.Internal.{is_closed}
 use Rattle.lexer.specs.Token.{Item, gap, token, fault, has_escapes, item_of, item}
-use Rattle.lexer.proofs.ClosingLaws.{closing_bytes, closed_stays}
+use Rattle.lexer.proofs.ClosingLaws.{closing_bytes, closed_stays, is_closed}
 use Rattle.lexer.proofs.ItemCases.{item_case}
 use Rattle.lexer.proofs.LocalStrings.{close_goes}
 

@@ -9,8 +9,10 @@ use lib.ListN.{length, take}
 use lib.Seq.{take_at}
 use Rattle.text.specs.Bytes.{front, is_word_byte, is_number_byte}
 use Rattle.text.proofs.Choice.{cond-case, cond-true, cond-false}
-use Rattle.literals.specs.declared.number.Meaning.{Meaning}
-use Rattle.literals.specs.declared.number.Meaning.TheVariants as N
+use Rattle.literals.specs.Number.{Meaning}
+use Rattle.std.specs.declared.result.Result.TheVariants.{Ok, Err}
+use Rattle.literals.specs.declared.number.NumberValue.TheVariants as N
+use Rattle.literals.specs.declared.number.NumberError.TheVariants as E
 use Rattle.literals.specs.Number.{number}
 use Rattle.literals.specs.Word.{has_shape}
 use Rattle.lexer.specs.Token.{word, Item, token, fault, word_item, meant_item, number_item}
@@ -91,17 +93,17 @@ word_seam b x z z' h s = pick (has_shape (b ∷ take (front is_word_byte (x ++ z
 
 meant_front : (n more : ℕ) (m : Meaning) → EndsAt n (meant_item more m) → more ≡ n
 unfolding meant_item EndsAt
-meant_front n more (N.Integer z) h = h
-meant_front n more (N.Decimal minus m p) h = h
-meant_front n more N.Malformed h = absurd h
-meant_front n more N.TooWide h = absurd h
+meant_front n more (Ok (N.Integer z)) h = h
+meant_front n more (Ok (N.Decimal minus m p)) h = h
+meant_front n more (Err E.Malformed) h = absurd h
+meant_front n more (Err E.TooWide) h = absurd h
 
 meant_seam : (x : List ℕ) (n more : ℕ) (m : Meaning) (z z' : List ℕ) → EndsAt n (meant_item more m) → ItemSeam x (meant_item more m) z z' → Seam is_number_byte z z'
 unfolding meant_item EndsAt ItemSeam FormSeam
-meant_seam x n more (N.Integer i) z z' h s = s
-meant_seam x n more (N.Decimal minus m p) z z' h s = s
-meant_seam x n more N.Malformed z z' h s = absurd h
-meant_seam x n more N.TooWide z z' h s = absurd h
+meant_seam x n more (Ok (N.Integer i)) z z' h s = s
+meant_seam x n more (Ok (N.Decimal minus m p)) z z' h s = s
+meant_seam x n more (Err E.Malformed) z z' h s = absurd h
+meant_seam x n more (Err E.TooWide) z z' h s = absurd h
 
 number_known : (b : ℕ) (x z : List ℕ) → front is_number_byte (x ++ z) ≡ length x → number_item b (x ++ z) ≡ meant_item (length x) (number (b ∷ x))
 unfolding number_item

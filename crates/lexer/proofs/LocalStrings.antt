@@ -21,9 +21,9 @@ use Rattle.lexer.specs.declared.closing.Closing.TheVariants as C
 use Rattle.lexer.specs.declared.closing.Block.{Block}
 use Rattle.lexer.specs.declared.closing.Block.TheVariants as B
 use Rattle.lexer.specs.Closing.{after_quote, after_other, closing_step, closing, block_step, block, not_newline}
-use Rattle.lexer.specs.Internal.{is_closed, block_read, is_shut}
+use Rattle.lexer.specs.Internal.{block_read}
 use Rattle.lexer.specs.Token.{Item, gap, fault, block_item, comment, content_item, closed_item, has_escapes, string_item, hash_count, raw_item}
-use Rattle.lexer.proofs.ClosingLaws.{closing_bytes, closed_step, shut_step}
+use Rattle.lexer.proofs.ClosingLaws.{closing_bytes, closed_step, shut_step, is_closed, is_shut}
 use Rattle.lexer.proofs.Seams.{EndsAt, ItemSeam}
 use Rattle.lexer.proofs.LocalRuns.{front_less, front_local}
 

@@ -1,6 +1,7 @@
 -- The law by which the readers above go on: the tokens from a place are the next token and the tokens from its end.
 -- With it what one answer of `item_by` says of the tokens from its place, for the loop of `next_token`.
 -- Assumes nothing.
+use Rattle.std.specs.Prelude.{Ok, Err, Result}
 use mathlib.Core.Path.{◌≡◌, refl, sym, ap, ◌∙◌, subst}
 use Prim.Native.Nat.{ℕ, zero, suc, ◌+◌, ◌-◌, ◌≤◌, ◌<◌}
 use native.Mathlib.Nat.{suc-add, add-suc, le_refl}
@@ -13,7 +14,7 @@ use lib.Seq.{drop-drop, get_or-drop}
 use borrow.Author.Tests.{ltb-true, ltb-false}
 use Rattle.text.specs.declared.switches.Switches.{Switches}
 use Rattle.lexer.specs.declared.item.TokenKind.{TokenKind}
-use Rattle.text.specs.declared.refusal.Refusal.{Refusal}
+use Rattle.text.specs.Refusal.{Refusal}
 use Rattle.lexer.specs.declared.item.Token.{Token}
 use Rattle.lexer.specs.declared.item.Found.{Found}
 use Rattle.lexer.specs.declared.item.Found.TheVariants as F
@@ -25,37 +26,37 @@ use Rattle.lexer.proofs.TokenLaws.{EndsBy, item_ends, item_at_ends, cut_left, cu
 -- ---- what an answer of `item_by` says
 
 module _ (at e : ℕ) where
-  found_gap : (i : Item) → found at i ≡ F.Gap e → (more : ℕ) × (i ≡ gap more) × (e ≡ at + suc more)
+  found_gap : (i : Item) → found at i ≡ Ok (F.Gap e) → (more : ℕ) × (i ≡ gap more) × (e ≡ at + suc more)
   unfolding found
   found_gap (gap more) q = (more, refl, (cc))
   found_gap (token form more) q = let z : ◌≡◌ {A = ℕ} 0 1 = cc in absurd (omega arith)
   found_gap (fault number) q = let z : ◌≡◌ {A = ℕ} 0 1 = cc in absurd (omega arith)
 
-  pub found_token : (k : TokenKind) (i : Item) → found at i ≡ F.Token k e → (form : Form) × (more : ℕ) × (i ≡ token form more) × (kind_of form ≡ k) × (e ≡ at + suc more)
+  pub found_token : (k : TokenKind) (i : Item) → found at i ≡ Ok (F.Token k e) → (form : Form) × (more : ℕ) × (i ≡ token form more) × (kind_of form ≡ k) × (e ≡ at + suc more)
   unfolding found
   found_token k (gap more) q = let z : ◌≡◌ {A = ℕ} 0 1 = cc in absurd (omega arith)
   found_token k (token form more) q = (form, more, refl, (cc), (cc))
   found_token k (fault number) q = let z : ◌≡◌ {A = ℕ} 0 1 = cc in absurd (omega arith)
 
-  found_fault : (i : Item) → found at i ≡ F.Refused e → i ≡ fault e
+  found_fault : (i : Item) → found at i ≡ Err e → i ≡ fault e
   unfolding found
   found_fault (gap more) q = cc
   found_fault (token form more) q = cc
   found_fault (fault number) q = cc
 
-found_something : (at : ℕ) (i : Item) → found at i ≡ F.Nothing → ⊥
+found_something : (at : ℕ) (i : Item) → found at i ≡ (Ok F.Nothing) → ⊥
 unfolding found
 found_something at (gap more) q = let z : ◌≡◌ {A = ℕ} 0 1 = cc in omega arith
 found_something at (token form more) q = let z : ◌≡◌ {A = ℕ} 0 1 = cc in omega arith
 found_something at (fault number) q = let z : ◌≡◌ {A = ℕ} 0 1 = cc in omega arith
 
 -- an answer other than `Nothing` is one about an item within the text
-chosen : (t : Bool) (f r : Found) → cond t f F.Nothing ≡ r → (r ≡ F.Nothing → ⊥) → (t ≡ true) × (f ≡ r)
+chosen : (t : Bool) (f r : Result Found ℕ) → cond t f (Ok F.Nothing) ≡ r → (r ≡ (Ok F.Nothing) → ⊥) → (t ≡ true) × (f ≡ r)
 chosen true f r q n = (refl, q)
 chosen false f r q n = absurd (n (sym q))
 
 module _ (sw : Switches) (s : List ℕ) (at : ℕ) where
-  pub item_there : (r : Found) → found_at sw s at ≡ r → (r ≡ F.Nothing → ⊥) → (at < length s) × (found at (item_at sw s at) ≡ r)
+  pub item_there : (r : Result Found ℕ) → found_at sw s at ≡ r → (r ≡ (Ok F.Nothing) → ⊥) → (at < length s) × (found at (item_at sw s at) ≡ r)
   unfolding found_at
   item_there r q n =
       let c = chosen (ltb at (length s)) (found at (item_at sw s at)) r q n in
@@ -65,32 +66,32 @@ module _ (sw : Switches) (s : List ℕ) (at : ℕ) where
   unfolding EndsBy
   gap_within more h q = let w = subst (EndsBy (length s - suc at)) q (item_at_ends sw s at h) in omega arith
 
-  pub after_gap : (e : ℕ) → found_at sw s at ≡ F.Gap e → (tokens_from sw s at ≡ tokens_from sw s e) × (at < e) × (e ≤ length s)
+  pub after_gap : (e : ℕ) → found_at sw s at ≡ Ok (F.Gap e) → (tokens_from sw s at ≡ tokens_from sw s e) × (at < e) × (e ≤ length s)
   after_gap e q =
-      let h = item_there (F.Gap e) q (λ n. let z : ◌≡◌ {A = ℕ} 0 1 = cc in omega arith) in
+      let h = item_there (Ok (F.Gap e)) q (λ n. let z : ◌≡◌ {A = ℕ} 0 1 = cc in omega arith) in
       let g = found_gap at e (item_at sw s at) h.1 in
       let w = gap_within g.0 h.0 g.1 in
       let m = g.2 in
       (from_gap sw s at h.0 g.0 g.1 ∙ ap (tokens_from sw s) (sym m), omega arith, omega arith)
 
-  pub at_token : (k : TokenKind) (e : ℕ) → found_at sw s at ≡ F.Token k e → first_of (tokens_from sw s at) ≡ token_next k at e
+  pub at_token : (k : TokenKind) (e : ℕ) → found_at sw s at ≡ Ok (F.Token k e) → first_of (tokens_from sw s at) ≡ token_next k at e
   unfolding first_of
   at_token k e q =
-      let h = item_there (F.Token k e) q (λ n. let z : ◌≡◌ {A = ℕ} 0 1 = cc in omega arith) in
+      let h = item_there (Ok (F.Token k e)) q (λ n. let z : ◌≡◌ {A = ℕ} 0 1 = cc in omega arith) in
       let g = found_token at e k (item_at sw s at) h.1 in
       ap first_of (from_token sw s at h.0 g.0 g.1 g.2) ∙ (λ i. token_next (g.3 i) at (sym g.4 i))
 
-  pub at_fault : (n : ℕ) → found_at sw s at ≡ F.Refused n → first_of (tokens_from sw s at) ≡ refused_next n at
+  pub at_fault : (n : ℕ) → found_at sw s at ≡ Err n → first_of (tokens_from sw s at) ≡ refused_next n at
   unfolding first_of
   at_fault n q =
-      let h = item_there (F.Refused n) q (λ m. let z : ◌≡◌ {A = ℕ} 0 1 = cc in omega arith) in
+      let h = item_there (Err n) q (λ m. let z : ◌≡◌ {A = ℕ} 0 1 = cc in omega arith) in
       ap first_of (from_fault sw s at h.0 n (found_fault at n (item_at sw s at) h.1))
 
-  past_end : (t : Bool) → ltb at (length s) ≡ t → cond t (found at (item_at sw s at)) F.Nothing ≡ F.Nothing → length s ≤ at
+  past_end : (t : Bool) → ltb at (length s) ≡ t → cond t (found at (item_at sw s at)) (Ok F.Nothing) ≡ (Ok F.Nothing) → length s ≤ at
   past_end true p q = absurd (found_something at (item_at sw s at) q)
   past_end false p q = ltb-false at (length s) p
 
-  pub at_end_law : found_at sw s at ≡ F.Nothing → first_of (tokens_from sw s at) ≡ X.End at
+  pub at_end_law : found_at sw s at ≡ (Ok F.Nothing) → first_of (tokens_from sw s at) ≡ Ok (X.End at)
   unfolding found_at first_of tokens_from
   at_end_law q =
       let h = past_end (ltb at (length s)) refl q in
@@ -213,11 +214,11 @@ module _ (sw : Switches) (s : List ℕ) (at : ℕ) where
       (cut_follows sw 0 at (drop at s) (omega arith)) p
 
   -- the end and a fault are all that is left
-  pub next_end : (place : ℕ) → first_of (tokens_from sw s at) ≡ X.End place → tokens_from sw s at ≡ end place
+  pub next_end : (place : ℕ) → first_of (tokens_from sw s at) ≡ Ok (X.End place) → tokens_from sw s at ≡ end place
   unfolding first_of
   next_end place p = is_end (tokens_from sw s at) p
     where
-      is_end : (ts : Tokens) → first_of ts ≡ X.End place → ts ≡ end place
+      is_end : (ts : Tokens) → first_of ts ≡ Ok (X.End place) → ts ≡ end place
       is_end (next t ts) q = cc
       is_end (end p') q = cc
       is_end (Tokens.fault number p') q = cc

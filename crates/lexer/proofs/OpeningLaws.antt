@@ -1,5 +1,6 @@
 -- What opens a string: by the bytes at a place, how far it reaches, and that it says what `item` says.
 -- Assumes nothing.
+use Rattle.std.specs.Prelude.{Err}
 use mathlib.Core.Path.{◌≡◌, refl, sym, ap, ◌∙◌, subst}
 use Prim.Native.Nat.{ℕ, zero, suc, ◌+◌, ◌-◌, ◌≤◌, ◌<◌}
 use native.Mathlib.Nat.{suc-add}
@@ -7,7 +8,7 @@ use native.Mathlib.Omega.{arith}
 use mathlib.Core.Bool.{Bool, true, false, not, cond, ◌&&◌, ◌||◌, false≢true}
 use mathlib.Core.List.{List, [], ◌∷◌}
 use lib.Dec.{T, eqb, eqb→eq}
-use lib.ListN.{length, drop, get_or, length-drop}
+use lib.ListN.{length, take, drop, get_or, length-drop}
 use lib.Seq.{drop-drop, drop-cons, get_or-drop}
 use borrow.Author.Tests.{eq-eqb, ne_eqb, lt-ltb}
 use Rattle.text.specs.declared.switches.Switches.{Switches}
@@ -18,7 +19,7 @@ use Rattle.literals.specs.declared.decoder.Body.TheVariants as Y
 use Rattle.lexer.specs.declared.opening.StringHead.{StringHead}
 use Rattle.lexer.specs.declared.opening.Opening.{Opening}
 use Rattle.lexer.specs.declared.opening.Opening.TheVariants as O
-use Rattle.lexer.specs.declared.item.Found.TheVariants as F
+use Rattle.text.proofs.ListLaws.{part_to_end}
 use Rattle.lexer.specs.Token.{fault, string_item, hash_count, raw_item, opens_raw, word_item, small_item, item_of, item, item_at}
 use Rattle.lexer.specs.Opening.{string_opening, raw_opening, bytes_opening, opening_of, opened_item}
 use Rattle.lexer.specs.Answer.{found, found_at}
@@ -50,12 +51,14 @@ base64_at s i =
     let e : i + 1 + 1 ≡ i + 2 = omega arith in
     rw (begins_next s i 54 (52 ∷ 34 ∷ []) (omega arith), begins_next s (i + 1) 52 (34 ∷ []) (omega arith), begins_one s (i + 1 + 1) 34 (omega arith), e)
 
--- hashes from `from` on, k of them, and the byte at q behind them
-pub raw_at_law : (isText : Bool) (before : ℕ) (s : List ℕ) (from k q : ℕ) → k ≡ front (is "#") (drop from s) → q ≡ from + k
+-- hashes from `from` on, k of them, and the byte behind them
+pub raw_at_law : (isText : Bool) (before : ℕ) (s : List ℕ) (from k : ℕ) → k ≡ front (is "#") (take (length s - from) (drop from s))
     → raw_opening isText before (drop from s)
-    ≡ cond (eqb (get_or s q 0) 34) (string_opening isText Y.Raw (before + k + 1) k) (cond (eqb k 0) O.Nothing O.Broken)
+    ≡ cond (eqb (get_or s (from + k) 0) 34) (string_opening isText Y.Raw (before + k + 1) k) (cond (eqb k 0) O.Nothing O.Broken)
 unfolding raw_opening hash_count
-raw_at_law isText before s from k q k-is q-is = rw (← k-is, drop-drop k from s, ← q-is, begins_one s q 34 (omega arith))
+raw_at_law isText before s from k e =
+    let h = rw (part_to_end s from) at e in
+    rw (← h, drop-drop k from s, begins_one s (from + k) 34 (omega arith))
 
 module _ (sw : Switches) (s : List ℕ) (i : ℕ) where
   pub bytes_at_law : bytes_opening sw (drop i s)
@@ -246,7 +249,7 @@ module _ (sw : Switches) (s : List ℕ) (at : ℕ) where
   unfolding opened_item
   opened_string h e = rw (e, drop-drop h.before at s)
 
-  pub opened_broken : opening_of sw (drop at s) ≡ O.Broken → F.Refused 3 ≡ found at (opened_item sw (opening_of sw (drop at s)) (drop at s))
+  pub opened_broken : opening_of sw (drop at s) ≡ O.Broken → Err 3 ≡ found at (opened_item sw (opening_of sw (drop at s)) (drop at s))
   unfolding opened_item found
   opened_broken e = rw e
 

@@ -1,25 +1,29 @@
 -- A string or key by itself: where its content stands, and what the item at its start says of it.
 -- Assumes nothing.
+use Rattle.std.specs.Prelude.{Ok, Err}
 use mathlib.Core.Path.{◌≡◌, refl, sym, ap, ◌∙◌, subst}
 use Prim.Native.Nat.{ℕ, suc, ◌+◌, ◌-◌, ◌≤◌, ◌<◌}
 use native.Mathlib.Omega.{arith}
-use mathlib.Core.Bool.{Bool, true, false, cond, false≢true}
+use mathlib.Core.Bool.{Bool, true, false, cond, ◌&&◌, false≢true}
 use mathlib.Core.Option.{Option, none, some}
 use mathlib.Core.List.{List, [], ◌∷◌}
 use lib.Dec.{T, eqb, eqb→eq}
 use lib.ListN.{length, take, drop, get_or, length-drop}
 use lib.Seq.{take_all}
-use borrow.Author.Tests.{eq-eqb, ne_eqb, lt-ltb}
+use borrow.Author.Tests.{eq-eqb, ne_eqb, eqb-true, eqb-false, lt-ltb}
 use Rattle.text.specs.declared.switches.Switches.{Switches}
 use Rattle.text.specs.Bytes.{front, is, Class, class_of, class_number, one_of, is_word_byte, is_number_byte}
 use Rattle.text.specs.Utf8.{is_utf8}
 use Rattle.literals.specs.declared.decoder.Body.{Body}
 use Rattle.literals.specs.declared.decoder.Decoder.TheVariants as D
-use Rattle.literals.specs.declared.content.Written.TheVariants as W
+use Rattle.std.specs.declared.result.Result.TheVariants as W
+use Rattle.literals.specs.declared.content.ContentError.TheVariants.{NoContent}
 use Rattle.literals.specs.Content.{decoded, start_of, content, only_utf8, content_of, fitted, placed, same_content}
 use Rattle.literals.proofs.PairLaws.{letters_own}
-use Rattle.literals.specs.declared.number.Meaning.{Meaning}
-use Rattle.literals.specs.declared.number.Meaning.TheVariants as N
+use Rattle.literals.specs.Number.{Meaning}
+use Rattle.std.specs.declared.result.Result.TheVariants.{Ok, Err}
+use Rattle.literals.specs.declared.number.NumberValue.TheVariants as N
+use Rattle.literals.specs.declared.number.NumberError.TheVariants as E
 use Rattle.literals.specs.Number.{number}
 use Rattle.literals.specs.Word.{has_shape}
 use Rattle.lexer.specs.declared.closing.Closing.{Closing}
@@ -31,6 +35,8 @@ use Rattle.lexer.specs.declared.item.Found.{Found}
 use Rattle.lexer.specs.declared.item.Found.TheVariants as F
 use Rattle.lexer.specs.declared.item.Token as CT
 use Rattle.lexer.specs.declared.item.Next.{Next}
+use Rattle.std.specs.declared.result.Result.{Result}
+use Rattle.text.specs.Refusal.{Refusal}
 use Rattle.lexer.specs.declared.item.Next.TheVariants as X
 use Rattle.lexer.specs.declared.opening.StringHead.{StringHead}
 use Rattle.lexer.specs.declared.opening.Opening.{Opening}
@@ -153,10 +159,10 @@ word_whole b l c e = shaped (has_shape (b ∷ take (front is_word_byte l) l)) e
 
 number_whole : (m more : ℕ) (x : Meaning) (c : List ℕ) → whole_item m (meant_item more x) ≡ some c → ⊥
 unfolding meant_item whole_item key_content
-number_whole m more (N.Integer z) c e = none_both (eqb more m) c e
-number_whole m more (N.Decimal minus d p) c e = none_both (eqb more m) c e
-number_whole m more N.Malformed c e = no_content c e
-number_whole m more N.TooWide c e = no_content c e
+number_whole m more (Ok (N.Integer z)) c e = none_both (eqb more m) c e
+number_whole m more (Ok (N.Decimal minus d p)) c e = none_both (eqb more m) c e
+number_whole m more (Err E.Malformed) c e = no_content c e
+number_whole m more (Err E.TooWide) c e = no_content c e
 
 block_whole : (m : ℕ) (x : Block) (c : List ℕ) → whole_item m (block_item x) ≡ some c → ⊥
 unfolding block_item whole_item
@@ -236,43 +242,43 @@ part_is sw s p y e = subst (PartIs sw s) (sym e) (part_holds sw s y)
 -- ---- what an answer of `next_token` says of the item at its place
 
 -- whether it is a token
-unfoldable pub is_token : Found → Bool
-is_token (F.Gap e) = false
-is_token (F.Token k e) = true
-is_token (F.Refused n) = false
-is_token F.Nothing = false
+unfoldable pub is_token : Result Found ℕ → Bool
+is_token (Ok (F.Gap e)) = false
+is_token (Ok (F.Token k e)) = true
+is_token (Err n) = false
+is_token (Ok F.Nothing) = false
 
 -- a token that begins at this place
-unfoldable pub BeginsAt : (at : ℕ) → Next → Type 0
-BeginsAt at (X.Token t) = t.span.start ≡ at
-BeginsAt at (X.End place) = ⊥
-BeginsAt at (X.Refused f) = ⊥
+unfoldable pub BeginsAt : (at : ℕ) → Result Next Refusal → Type 0
+BeginsAt at (Ok (X.Token t)) = t.span.start ≡ at
+BeginsAt at (Ok (X.End place)) = ⊥
+BeginsAt at (Err f) = ⊥
 
 module _ (sw : Switches) (s : List ℕ) (at : ℕ) (h : at ≤ length s) where
-  pub token_here : (t : CT.Token) → first_of (tokens_from sw s at) ≡ X.Token t → t.span.start ≡ at → found_at sw s at ≡ F.Token t.kind t.span.stop
+  pub token_here : (t : CT.Token) → first_of (tokens_from sw s at) ≡ Ok (X.Token t) → t.span.start ≡ at → found_at sw s at ≡ Ok (F.Token t.kind t.span.stop)
   token_here t e b = go (found_at sw s at) refl
     where
-      go : (r : Found) → found_at sw s at ≡ r → r ≡ F.Token t.kind t.span.stop
-      go (F.Gap k) q =
+      go : (r : Result Found ℕ) → found_at sw s at ≡ r → r ≡ Ok (F.Token t.kind t.span.stop)
+      go (Ok (F.Gap k)) q =
           let g = after_gap sw s at k q in
           let a = next_ahead sw s k t.kind t.span.start t.span.stop g.2 (ap first_of (sym g.0) ∙ e) in
           let w = a.after in absurd (omega arith)
-      go (F.Token k z) q =
-          let p : token_next k at z ≡ X.Token t = sym (at_token sw s at k z q) ∙ e in
+      go (Ok (F.Token k z)) q =
+          let p : token_next k at z ≡ Ok (X.Token t) = sym (at_token sw s at k z q) ∙ e in
           let u : ◌≡◌ {A = CT.Token} (record { kind = k; span = record { start = at; stop = z } }) t = cc in
-          λ i. F.Token (u i).kind (u i).span.stop
-      go (F.Refused n) q = let p : refused_next n at ≡ X.Token t = sym (at_fault sw s at n q) ∙ e in let z : ◌≡◌ {A = ℕ} 0 1 = cc in absurd (omega arith)
-      go F.Nothing q = let p : X.End at ≡ X.Token t = sym (at_end_law sw s at q) ∙ e in let z : ◌≡◌ {A = ℕ} 0 1 = cc in absurd (omega arith)
+          λ i. Ok (F.Token (u i).kind (u i).span.stop)
+      go (Err n) q = let p : refused_next n at ≡ Ok (X.Token t) = sym (at_fault sw s at n q) ∙ e in let z : ◌≡◌ {A = ℕ} 0 1 = cc in absurd (omega arith)
+      go (Ok F.Nothing) q = let p : Ok (X.End at) ≡ Ok (X.Token t) = sym (at_end_law sw s at q) ∙ e in let z : ◌≡◌ {A = ℕ} 0 1 = cc in absurd (omega arith)
 
-  pub none_here : (r : Next) → first_of (tokens_from sw s at) ≡ r → (BeginsAt at r → ⊥) → is_token (found_at sw s at) ≡ false
+  pub none_here : (r : Result Next Refusal) → first_of (tokens_from sw s at) ≡ r → (BeginsAt at r → ⊥) → is_token (found_at sw s at) ≡ false
   unfolding is_token BeginsAt
   none_here r e n = go (found_at sw s at) refl
     where
-      go : (f : Found) → found_at sw s at ≡ f → is_token f ≡ false
-      go (F.Gap k) q = refl
-      go (F.Token k z) q = absurd (n (subst (BeginsAt at) (sym (at_token sw s at k z q) ∙ e) refl))
-      go (F.Refused m) q = refl
-      go F.Nothing q = refl
+      go : (f : Result Found ℕ) → found_at sw s at ≡ f → is_token f ≡ false
+      go (Ok (F.Gap k)) q = refl
+      go (Ok (F.Token k z)) q = absurd (n (subst (BeginsAt at) (sym (at_token sw s at k z q) ∙ e) refl))
+      go (Err m) q = refl
+      go (Ok F.Nothing) q = refl
 
 kind_content : (form : Form) → has_content (key_content form) ≡ holds_content (kind_of form)
 unfolding has_content key_content holds_content kind_of
@@ -300,11 +306,11 @@ module _ (sw : Switches) where
   no_token (b ∷ l) e = sym (ap has_content (item_none (length l) (item sw b l) (ap is_token (sym (here b l)) ∙ e)))
 
   -- a token, with what more of it there is than its first byte
-  whole_token : (s : List ℕ) (k : TokenKind) (e : ℕ) → found_at sw s 0 ≡ F.Token k e
+  whole_token : (s : List ℕ) (k : TokenKind) (e : ℕ) → found_at sw s 0 ≡ Ok (F.Token k e)
       → (form : Form) × (more : ℕ) × (kind_of form ≡ k) × (e ≡ 0 + suc more) × (0 < length s)
       × (token_content sw s ≡ cond (eqb more (length s - 1)) (key_content form) none)
   unfolding token_content whole_item
-  whole_token [] k e q = let h = item_there sw [] 0 (F.Token k e) q (λ n. let z : ◌≡◌ {A = ℕ} 0 1 = cc in omega arith) in absurd (omega arith)
+  whole_token [] k e q = let h = item_there sw [] 0 (Ok (F.Token k e)) q (λ n. let z : ◌≡◌ {A = ℕ} 0 1 = cc in omega arith) in absurd (omega arith)
   whole_token (b ∷ l) k e q =
       let g = found_token 0 e k (item sw b l) (sym (here b l) ∙ q) in
       let j : length l ≡ suc (length l) - 1 = omega arith in (
@@ -316,14 +322,14 @@ module _ (sw : Switches) where
         ap (whole_item (length l)) g.2 ∙ ap (λ (n : ℕ). cond (eqb g.1 n) (key_content g.0) none) j,
       )
 
-  pub token_all : (s : List ℕ) (k : TokenKind) (e : ℕ) → found_at sw s 0 ≡ F.Token k e → e ≡ length s → holds_content k ≡ has_content (token_content sw s)
+  pub token_all : (s : List ℕ) (k : TokenKind) (e : ℕ) → found_at sw s 0 ≡ Ok (F.Token k e) → e ≡ length s → holds_content k ≡ has_content (token_content sw s)
   token_all s k e q h =
       let w = whole_token s k e q in
       let m = w.3 in
       let j : w.1 ≡ length s - 1 = omega arith in
       sym (ap has_content (w.5 ∙ ap (λ (t : Bool). cond t (key_content w.0) none) (eq-eqb w.1 (length s - 1) j)) ∙ kind_content w.0 ∙ ap holds_content w.2)
 
-  pub token_short : (s : List ℕ) (k : TokenKind) (e : ℕ) → found_at sw s 0 ≡ F.Token k e → (e ≡ length s → ⊥) → false ≡ has_content (token_content sw s)
+  pub token_short : (s : List ℕ) (k : TokenKind) (e : ℕ) → found_at sw s 0 ≡ Ok (F.Token k e) → (e ≡ length s → ⊥) → false ≡ has_content (token_content sw s)
   unfolding has_content
   token_short s k e q h =
       let w = whole_token s k e q in
@@ -331,6 +337,24 @@ module _ (sw : Switches) where
       let p = w.4 in
       let j : w.1 ≡ length s - 1 → ⊥ = λ x. h (omega arith) in
       sym (ap has_content (w.5 ∙ ap (λ (t : Bool). cond t (key_content w.0) none) (ne_eqb w.1 (length s - 1) j)))
+
+  -- what is asked of the first token
+  pub keyed_first : (s : List ℕ) (t : CT.Token) → first_of (tokens_from sw s 0) ≡ Ok (X.Token t)
+      → has_content (token_content sw s) ≡ (eqb t.span.start 0 && (eqb t.span.stop (length s) && holds_content t.kind))
+  unfolding BeginsAt
+  keyed_first s t e = by (eqb t.span.start 0) refl (eqb t.span.stop (length s)) refl
+    where
+      by : (x : Bool) → eqb t.span.start 0 ≡ x → (y : Bool) → eqb t.span.stop (length s) ≡ y
+          → has_content (token_content sw s) ≡ (x && (y && holds_content t.kind))
+      by false p y q = sym (no_token s (none_here sw s 0 (omega arith) (Ok (X.Token t)) e (eqb-false _ _ p)))
+      by true p false q = sym (token_short s t.kind t.span.stop (token_here sw s 0 (omega arith) t e (eqb-true _ _ p)) (eqb-false _ _ q))
+      by true p true q = sym (token_all s t.kind t.span.stop (token_here sw s 0 (omega arith) t e (eqb-true _ _ p)) (eqb-true _ _ q))
+
+  pub keyed_none : (s : List ℕ) (r : Result Next Refusal) → first_of (tokens_from sw s 0) ≡ r → ((t : CT.Token) → r ≡ Ok (X.Token t) → ⊥) → false ≡ has_content (token_content sw s)
+  unfolding BeginsAt
+  keyed_none s (Ok (X.Token t)) e n = absurd (n t refl)
+  keyed_none s (Ok (X.End p)) e n = no_token s (none_here sw s 0 (omega arith) (Ok (X.End p)) e (λ z. z))
+  keyed_none s (Err f) e n = no_token s (none_here sw s 0 (omega arith) (Err f) e (λ z. z))
 
 -- ---- contents of what has been looked at
 
@@ -342,7 +366,7 @@ keyed_by sw s e = by (token_content sw s) refl e
     by none q e = absurd (false≢true e)
     by (some c) q e = record { content = c; is = q }
 
-pub no_key : (o : Option (List ℕ)) (out : List ℕ) → has_content o ≡ false → (W.Refused ≡ fitted (length out) o) × (out ≡ placed o out)
+pub no_key : (o : Option (List ℕ)) (out : List ℕ) → has_content o ≡ false → (W.Err NoContent ≡ fitted (length out) o) × (out ≡ placed o out)
 unfolding has_content fitted placed
 no_key none out e = (refl, refl)
 no_key (some c) out e = absurd (false≢true (sym e))

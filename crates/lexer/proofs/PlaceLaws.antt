@@ -7,27 +7,33 @@ use native.Mathlib.Omega.{arith}
 use mathlib.Core.Bool.{Bool, true, false}
 use mathlib.Core.Option.{Option, none, some}
 use mathlib.Core.List.{List, [], ◌∷◌}
+use lib.Dec.{eqb}
 use lib.ListN.{length, take, drop, get_or, length-drop}
 use lib.Seq.{get_or-drop}
 use borrow.Author.Tests.{eq-eqb, ne_eqb, lt-ltb, le-ltb}
+use Rattle.std.specs.Prelude.{Some, None, Ok, Err, Result}
 use Rattle.text.specs.declared.switches.Switches.{Switches}
 use Rattle.text.specs.Bytes.{front, Class, class_of, class_number, is_word_byte, is_number_byte}
 use Rattle.text.proofs.ClassLaws.{class_at, class_by}
 use Rattle.text.proofs.ListLaws.{get_d_inside, drop_next, part_next}
 use Rattle.literals.specs.declared.decoder.Body.{Body}
-use Rattle.literals.specs.declared.content.Measure.TheVariants as M
+use Rattle.std.specs.declared.option.Option.TheVariants as M
 use Rattle.literals.specs.Content.{content_of, measured}
-use Rattle.literals.specs.declared.number.Meaning.{Meaning}
+use Rattle.literals.specs.Number.{Meaning}
 use Rattle.literals.specs.Number.{number}
 use Rattle.literals.specs.Word.{has_shape}
+use Rattle.lexer.specs.declared.closing.Closing.{Closing}
 use Rattle.lexer.specs.declared.closing.Closing.TheVariants as C
+use Rattle.lexer.specs.declared.closing.Block.{Block}
+use Rattle.lexer.specs.declared.closing.Block.TheVariants as B
 use Rattle.lexer.specs.declared.item.TokenKind.TheVariants as K
 use Rattle.lexer.specs.declared.item.Found.{Found}
 use Rattle.lexer.specs.declared.item.Found.TheVariants as F
 use Rattle.lexer.specs.Closing.{closing, block, not_newline}
 use Rattle.lexer.specs.Token.{fault, block_item, comment, content_item, closed_item, has_escapes, string_item, word_item, meant_item, number_item, item_of, item, item_at}
 use Rattle.lexer.specs.Answer.{kind_of, found, found_at}
-use Rattle.lexer.specs.Internal.{string_found}
+use Rattle.lexer.specs.Internal.{closed_at, shut_at, string_found}
+use Rattle.lexer.proofs.ClosingLaws.{closed_told, shut_told}
 use Rattle.lexer.proofs.ItemCases.{front_le}
 
 -- ---- runs
@@ -39,20 +45,29 @@ run_within p s from h = let l = front_le p (drop from s) in let d = length-drop 
 
 module _ (s : List ℕ) (at : ℕ) where
   pub line_found : (end : ℕ) → get_or s (at + 1) 0 ≡ 47 → end ≡ at + 2 + front not_newline (drop (at + 2) s)
-      → F.Gap end ≡ found at (comment (drop (at + 1) s))
+      → Ok (F.Gap end) ≡ found at (comment (drop (at + 1) s))
   unfolding comment found
   line_found end e r =
       let h = get_d_inside s (at + 1) 47 e (omega arith) in
       let j : at + 2 ≡ at + 1 + 1 = omega arith in
-      rw (drop_next s (at + 1) (at + 2) j h, eq-eqb (get_or s (at + 1) 0) 47 e) (ap F.Gap (omega arith))
+      rw (drop_next s (at + 1) (at + 2) j h, eq-eqb (get_or s (at + 1) 0) 47 e) (ap (λ (x : ℕ). Ok (F.Gap x)) (omega arith))
 
-  pub block_found : (get_or s (at + 1) 0 ≡ 47 → ⊥) → get_or s (at + 1) 0 ≡ 42
-      → found at (comment (drop (at + 1) s)) ≡ found at (block_item (block (drop (at + 2) s)))
+  pub block_found : get_or s (at + 1) 0 ≡ 42 → found at (block_item (block (drop (at + 2) s))) ≡ found at (comment (drop (at + 1) s))
   unfolding comment
-  block_found n e =
+  block_found e =
       let h = get_d_inside s (at + 1) 42 e (omega arith) in
       let j : at + 2 ≡ at + 1 + 1 = omega arith in
-      rw (drop_next s (at + 1) (at + 2) j h, ne_eqb (get_or s (at + 1) 0) 47 n, eq-eqb (get_or s (at + 1) 0) 42 e)
+      rw (drop_next s (at + 1) (at + 2) j h, e)
+
+pub shut_found : (at n end : ℕ) (b : Block) → shut_at b ≡ Some n → end ≡ at + suc (suc n) → Ok (F.Gap end) ≡ found at (block_item b)
+unfolding block_item found
+shut_found at n end b e h = rw (shut_told b n e) (ap (λ (x : ℕ). Ok (F.Gap x)) h)
+
+pub unshut_found : (at : ℕ) (b : Block) → shut_at b ≡ None → Err 3 ≡ found at (block_item b)
+unfolding block_item found shut_at
+unshut_found at (B.Inside n) e = refl
+unshut_found at (B.Starred n) e = refl
+unshut_found at (B.Closed n) e = cc
 
 no_comment : (l : List ℕ) → (get_or l 0 0 ≡ 47 → ⊥) → (get_or l 0 0 ≡ 42 → ⊥) → comment l ≡ fault 3
 unfolding comment
@@ -60,7 +75,7 @@ no_comment [] m n = refl
 no_comment (b ∷ l) m n = rw (ne_eqb b 47 m, ne_eqb b 42 n)
 
 pub slash_found : (s : List ℕ) (at : ℕ) → (get_or s (at + 1) 0 ≡ 47 → ⊥) → (get_or s (at + 1) 0 ≡ 42 → ⊥)
-    → F.Refused 3 ≡ found at (comment (drop (at + 1) s))
+    → Err 3 ≡ found at (comment (drop (at + 1) s))
 unfolding found
 slash_found s at m n =
     let z : at + 1 + 0 ≡ at + 1 = omega arith in
@@ -69,19 +84,19 @@ slash_found s at m n =
 
 -- ---- strings
 
-pub text_found : (isText : Bool) (end n : ℕ) (c : Option (List ℕ)) → isText ≡ true → measured c ≡ M.Length n
-    → F.Token (K.Text n) end ≡ string_found isText end c
+pub text_found : (isText : Bool) (end n : ℕ) (c : Option (List ℕ)) → isText ≡ true → measured c ≡ M.Some n
+    → Ok (F.Token (K.Text n) end) ≡ string_found isText end c
 unfolding measured string_found kind_of
 text_found isText end n none e m = cc
 text_found isText end n (some bytes) e m = rw e (cc)
 
-pub bytes_found : (isText : Bool) (end n : ℕ) (c : Option (List ℕ)) → isText ≡ false → measured c ≡ M.Length n
-    → F.Token (K.Bytes n) end ≡ string_found isText end c
+pub bytes_found : (isText : Bool) (end n : ℕ) (c : Option (List ℕ)) → isText ≡ false → measured c ≡ M.Some n
+    → Ok (F.Token (K.Bytes n) end) ≡ string_found isText end c
 unfolding measured string_found kind_of
 bytes_found isText end n none e m = cc
 bytes_found isText end n (some bytes) e m = rw e (cc)
 
-pub content_refused : (isText : Bool) (end : ℕ) (c : Option (List ℕ)) → measured c ≡ M.Refused → F.Refused 4 ≡ string_found isText end c
+pub content_refused : (isText : Bool) (end : ℕ) (c : Option (List ℕ)) → measured c ≡ M.None → Err 4 ≡ string_found isText end c
 unfolding measured string_found
 content_refused isText end none m = refl
 content_refused isText end (some bytes) m = cc
@@ -92,37 +107,35 @@ string_item_law isText at more none = refl
 string_item_law isText at more (some bytes) = refl
 
 module _ (sw : Switches) (isText : Bool) (body : Body) (at head k : ℕ) (l : List ℕ) where
-  pub closed_found : (n t end : ℕ) (r : Found) → closing (has_escapes body) k l ≡ C.Closed n → t ≡ n - suc k → end ≡ at + suc (head + n)
+  pub closed_found : (n t end : ℕ) (r : Result Found ℕ) → closed_at (closing (has_escapes body) k l) ≡ Some n → t ≡ n - suc k → end ≡ at + suc (head + n)
       → r ≡ string_found isText end (content_of sw isText body (take t l)) → r ≡ found at (string_item sw isText body head k l)
   unfolding string_item closed_item
   closed_found n t end r e t-is end_is r-is =
-      rw e
+      rw (closed_told (closing (has_escapes body) k l) n e)
       (r-is ∙ (λ i. string_found isText (end_is i) (content_of sw isText body (take (t-is i) l)))
       ∙ string_item_law isText at (head + n) (content_of sw isText body (take (n - suc k) l)))
 
-  pub inside_found : (n : ℕ) → closing (has_escapes body) k l ≡ C.Inside n → F.Refused 3 ≡ found at (string_item sw isText body head k l)
-  unfolding string_item closed_item found
-  inside_found n e = rw e
-
-  pub escaped_found : (n : ℕ) → closing (has_escapes body) k l ≡ C.Escaped n → F.Refused 3 ≡ found at (string_item sw isText body head k l)
-  unfolding string_item closed_item found
-  escaped_found n e = rw e
-
-  pub hashes_found : (j n : ℕ) → closing (has_escapes body) k l ≡ C.Hashes j n → F.Refused 3 ≡ found at (string_item sw isText body head k l)
-  unfolding string_item closed_item found
-  hashes_found j n e = rw e
+  pub unclosed_found : closed_at (closing (has_escapes body) k l) ≡ None → Err 3 ≡ found at (string_item sw isText body head k l)
+  unfolding string_item closed_item found closed_at
+  unclosed_found e = of_closing (closing (has_escapes body) k l) e
+    where
+      of_closing : (c : Closing) → closed_at c ≡ None → Err 3 ≡ found at (closed_item sw isText body head k l c)
+      of_closing (C.Inside n) e = refl
+      of_closing (C.Escaped n) e = refl
+      of_closing (C.Hashes j n) e = refl
+      of_closing (C.Closed n) e = cc
 
 -- ---- words and numbers
 
 module _ (s : List ℕ) (at end : ℕ) (h : at < length s) where
   pub word_found : end ≡ at + 1 + front is_word_byte (drop (at + 1) s) → has_shape (take (end - at) (drop at s)) ≡ true
-      → F.Token K.Word end ≡ found at (word_item (get_or s at 0) (drop (at + 1) s))
+      → Ok (F.Token K.Word end) ≡ found at (word_item (get_or s at 0) (drop (at + 1) s))
   unfolding word_item found kind_of
   word_found e t =
-      rw (sym (ap has_shape (part_next s at (front is_word_byte (drop (at + 1) s)) end h e)) ∙ t) (ap (F.Token K.Word) (omega arith))
+      rw (sym (ap has_shape (part_next s at (front is_word_byte (drop (at + 1) s)) end h e)) ∙ t) (ap (λ (x : ℕ). Ok (F.Token K.Word x)) (omega arith))
 
   pub word_bad : end ≡ at + 1 + front is_word_byte (drop (at + 1) s) → has_shape (take (end - at) (drop at s)) ≡ false
-      → F.Refused 3 ≡ found at (word_item (get_or s at 0) (drop (at + 1) s))
+      → Err 3 ≡ found at (word_item (get_or s at 0) (drop (at + 1) s))
   unfolding word_item found
   word_bad e t = rw (sym (ap has_shape (part_next s at (front is_word_byte (drop (at + 1) s)) end h e)) ∙ t)
 
@@ -136,19 +149,31 @@ module _ (s : List ℕ) (at end : ℕ) (h : at < length s) where
 -- ---- the item at a place, by the number of its first byte's class
 
 module _ (sw : Switches) (s : List ℕ) (at : ℕ) where
-  pub item_by : (n m : ℕ) → at < length s → n ≡ class_number (class_of (get_or s at 0)) → n ≡ m
-      → found_at sw s at ≡ found at (item_of sw (class_at m) (get_or s at 0) (drop (at + 1) s))
+  pub class_item : (n m : ℕ) → at < length s → n ≡ class_number (class_of (get_or s at 0)) → n ≡ m
+      → found at (item_of sw (class_at m) (get_or s at 0) (drop (at + 1) s)) ≡ found_at sw s at
   unfolding found_at item_at item
-  item_by n m h e f =
-      rw (lt-ltb at (length s) h, add-one, class_by (get_or s at 0) n e, f)
+  class_item n m h e f = rw (lt-ltb at (length s) h, add-one, class_by (get_or s at 0) n e, f)
 
-  pub item_past : length s ≤ at → F.Nothing ≡ found_at sw s at
+  pub item_past : length s ≤ at → (Ok F.Nothing) ≡ found_at sw s at
   unfolding found_at
   item_past h = rw (le-ltb at (length s) h)
 
 -- a number that is no other class's
-pub class_other : (n : ℕ) → (n ≡ 0 → ⊥) → (n ≡ 1 → ⊥) → (n ≡ 2 → ⊥) → (n ≡ 3 → ⊥) → (n ≡ 4 → ⊥) → (n ≡ 5 → ⊥) → (n ≡ 6 → ⊥) → (n ≡ 7 → ⊥)
-    → (n ≡ 8 → ⊥) → (n ≡ 9 → ⊥) → class_at n ≡ Class.other
+pub class_other : (n : ℕ) → 9 < n → class_at n ≡ Class.other
 unfolding class_at
-class_other n e0 e1 e2 e3 e4 e5 e6 e7 e8 e9 =
-    rw (ne_eqb n 0 e0, ne_eqb n 1 e1, ne_eqb n 2 e2, ne_eqb n 3 e3, ne_eqb n 4 e4, ne_eqb n 5 e5, ne_eqb n 6 e6, ne_eqb n 7 e7, ne_eqb n 8 e8, ne_eqb n 9 e9)
+class_other n h =
+    rw (
+      apart 0 (omega arith),
+      apart 1 (omega arith),
+      apart 2 (omega arith),
+      apart 3 (omega arith),
+      apart 4 (omega arith),
+      apart 5 (omega arith),
+      apart 6 (omega arith),
+      apart 7 (omega arith),
+      apart 8 (omega arith),
+      apart 9 (omega arith),
+    )
+  where
+    apart : (m : ℕ) → m < n → eqb n m ≡ false
+    apart m l = ne_eqb n m (λ e. omega arith)

@@ -1,7 +1,8 @@
 -- What only the contracts of this crate's inner functions cite, and of those that are public for the crates above alone.
 -- Nothing here has to be believed: the other public contracts don't name it.
 -- Assumes nothing.
-use Rattle.std.specs.Prelude.{ℕ, ◌+◌, ◌≡◌, Bool, true, false, List}
+use Rattle.std.specs.Prelude.{ℕ, ◌+◌, ◌≡◌, Bool, true, false, List, Ok, Err, Result}
+use Rattle.std.specs.Prelude as Std
 use Rattle.std.proofs.Math.Option.{Option, none, some}
 use Rattle.text.specs.declared.switches.Switches.{Switches}
 use Rattle.lexer.specs.declared.closing.Closing.{Closing}
@@ -22,12 +23,12 @@ closing_read (C.Escaped n) = n
 closing_read (C.Hashes j n) = j + n
 closing_read (C.Closed n) = n
 
--- the string has ended
-unfoldable pub is_closed : Closing → Bool
-is_closed (C.Inside n) = false
-is_closed (C.Escaped n) = false
-is_closed (C.Hashes j n) = false
-is_closed (C.Closed n) = true
+-- the bytes up to the string's end, if it has ended
+unfoldable pub closed_at : Closing → Std.Option ℕ
+closed_at (C.Inside n) = Std.None
+closed_at (C.Escaped n) = Std.None
+closed_at (C.Hashes j n) = Std.None
+closed_at (C.Closed n) = Std.Some n
 
 -- the bytes that the machine of comments has counted
 unfoldable pub block_read : Block → ℕ
@@ -35,16 +36,16 @@ block_read (B.Inside n) = n
 block_read (B.Starred n) = n
 block_read (B.Closed n) = n
 
--- the comment has ended
-unfoldable pub is_shut : Block → Bool
-is_shut (B.Inside n) = false
-is_shut (B.Starred n) = false
-is_shut (B.Closed n) = true
+-- the bytes up to the comment's end, if it has ended
+unfoldable pub shut_at : Block → Std.Option ℕ
+shut_at (B.Inside n) = Std.None
+shut_at (B.Starred n) = Std.None
+shut_at (B.Closed n) = Std.Some n
 
 -- a string token that ends before `end`, by its content
-unfoldable pub string_found : (isText : Bool) (end : ℕ) → Option (List ℕ) → Found
-string_found isText end none = F.Refused 4
-string_found isText end (some content) = F.Token (kind_of (string_form isText content)) end
+unfoldable pub string_found : (isText : Bool) (end : ℕ) → Option (List ℕ) → Result Found ℕ
+string_found isText end none = Err 4
+string_found isText end (some content) = Ok (F.Token (kind_of (string_form isText content)) end)
 
 -- ---- a token by itself
 

@@ -8,8 +8,10 @@ use Rattle.text.specs.Bytes.{front, starts_with, class_of, Class, is_word_byte, 
 use Rattle.literals.specs.declared.decoder.Body.{Body}
 use Rattle.literals.specs.declared.decoder.Body.TheVariants as Y
 use Rattle.literals.specs.Content.{content_of}
-use Rattle.literals.specs.declared.number.Meaning.{Meaning}
-use Rattle.literals.specs.declared.number.Meaning.TheVariants as N
+use Rattle.literals.specs.Number.{Meaning}
+use Rattle.std.specs.declared.result.Result.TheVariants.{Ok, Err}
+use Rattle.literals.specs.declared.number.NumberValue.TheVariants as N
+use Rattle.literals.specs.declared.number.NumberError.TheVariants as E
 use Rattle.literals.specs.Number.{number}
 use Rattle.literals.specs.Word.{has_shape}
 use Rattle.lexer.specs.declared.closing.Closing.{Closing}
@@ -112,10 +114,10 @@ word_item b s =
 
 -- 3 "malformed", 5 "number too wide"
 unfoldable pub meant_item : (more : ℕ) → Meaning → Item
-meant_item more (N.Integer z) = token (integer z) more
-meant_item more (N.Decimal minus m p) = token (decimal minus m p) more
-meant_item more N.Malformed = fault 3
-meant_item more N.TooWide = fault 5
+meant_item more (Ok (N.Integer z)) = token (integer z) more
+meant_item more (Ok (N.Decimal minus m p)) = token (decimal minus m p) more
+meant_item more (Err E.Malformed) = fault 3
+meant_item more (Err E.TooWide) = fault 5
 
 -- "runs over letters, digits, `_ . + -`"
 unfoldable pub number_item : ℕ → List ℕ → Item

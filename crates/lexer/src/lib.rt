@@ -6,4 +6,5 @@ pub mod closing;
 pub mod item;
 pub mod opening;
 pub mod runs;
+mod scanner;
 pub mod token;

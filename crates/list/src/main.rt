@@ -7,19 +7,20 @@
 
 mod listing;
 
+ghost use Rattle.std.specs.Prelude.{MatchOption};
 ghost use Rattle.io.specs.Counts.{IsPrefixLen};
 
 use console::input;
-use console::input::Filled;
 
 // The text's bytes.
-fn fill_text(rt: &HostRuntime, buf: &mut [u8]) -> Filled
-    ensures { IsPrefixLen result.count buf.new }
+fn fill_text(rt: &HostRuntime, buf: &mut [u8]) -> Option<usize>
+    ensures { MatchOption result (Unit {0}) (λ n. IsPrefixLen n buf.new) }
 {
     if input::has_argument(rt, 1) {
-        return input::fill_named(rt, 1, buf);
+        input::fill_named(rt, 1, buf)
+    } else {
+        input::fill_from(rt, &mut rt.stdin(), b"standard input", buf)
     }
-    input::fill_from(rt, &mut rt.stdin(), b"standard input", buf)
 }
 
 fn main(rt: HostRuntime) {
@@ -28,10 +29,7 @@ fn main(rt: HostRuntime) {
         return;
     }
     let mut buffer = [0u8; input::TEXT_ROOM];
-    let got = fill_text(&rt, &mut buffer);
-    if !got.is_read {
-        return;
+    if let Some(n) = fill_text(&rt, &mut buffer) {
+        listing::list(&rt, &buffer[..n]);
     }
-    let n = got.count;
-    listing::list(&rt, &buffer[..n]);
 }

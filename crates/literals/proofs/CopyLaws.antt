@@ -3,7 +3,7 @@
 use mathlib.Core.Path.{◌≡◌, refl, sym, ap, ◌∙◌}
 use Prim.Native.Nat.{ℕ, ◌+◌, ◌-◌, ◌<◌, ◌≤◌}
 use native.Mathlib.Omega.{arith}
-use mathlib.Core.Bool.{Bool, true, false, cond, false≢true}
+use mathlib.Core.Bool.{Bool, true, false, cond}
 use mathlib.Core.Option.{Option, none, some}
 use mathlib.Core.List.{List, [], ◌++◌, append-nil}
 use lib.ListN.{length, take, drop, get_or, length-append, length-drop, drop_of_length-le}
@@ -14,32 +14,12 @@ use Rattle.text.specs.Utf8.{listed}
 use Rattle.text.proofs.ListLaws.{take_sets}
 use Rattle.literals.specs.declared.decoder.Body.{Body}
 use Rattle.literals.specs.declared.decoder.Decoder.{Decoder}
-use Rattle.literals.specs.declared.decoder.Decoder.TheVariants.{Plain, Verbatim, Letters}
 use Rattle.literals.specs.declared.decoder.Decoded.{Decoded}
 use Rattle.literals.specs.Content.{gives, decode_step, may_end, prepend, decoded, start_of, content}
-use Rattle.literals.specs.InternalContent.{Sound, PlainByte, OwnByteIf, Copied}
+use Rattle.literals.specs.InternalContent.{Sound, OwnByteIf, Copied}
 use Rattle.literals.proofs.StepLaws.{good_next, decoded_turn, decoded_end}
 use Rattle.literals.proofs.TallyLaws.{start_sound}
-use Rattle.literals.proofs.PlainLaws.{quoted_plain, raw_plain, word_plain}
 use Rattle.literals.proofs.FillLaws.{prepend_both, prepend_none}
-
--- ---- bytes that stand for themselves
-
-pub own_not : (st : Decoder) (b : ℕ) → OwnByteIf st b false
-own_not st b = record { is = λ e. absurd (false≢true e) }
-
-module _ {b : ℕ} (low : 0x20 ≤ b) (high : b ≤ 0x7E) (apart : b ≡ 0x5C → ⊥) where
-  plain : PlainByte b
-  plain = record { low = low; high = high; apart = apart }
-
-  pub own_quoted : {st : Decoder} → st ≡ Plain → OwnByteIf st b true
-  own_quoted e = rw e (record { is = λ _ sw. quoted_plain sw b plain })
-
-  pub own_raw : {st : Decoder} → st ≡ Verbatim → OwnByteIf st b true
-  own_raw e = rw e (record { is = λ _ sw. raw_plain sw b plain })
-
-  pub own_word_law : {st : Decoder} → st ≡ Letters → OwnByteIf st b true
-  own_word_law e = rw e (record { is = λ _ sw. word_plain sw b plain })
 
 -- ---- the loop
 

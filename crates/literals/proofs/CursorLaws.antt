@@ -9,7 +9,7 @@ use mathlib.Core.List.{List, [], ◌∷◌}
 use lib.ListN.{length, drop, get_or}
 use Rattle.text.specs.declared.switches.Switches.{Switches}
 use Rattle.text.specs.declared.few.Few.{Few}
-use Rattle.text.specs.declared.few.Few.TheVariants.{Zero, One, Two, Three, Four}
+use Rattle.text.specs.declared.few.Few.TheVariants.{Zero}
 use Rattle.text.specs.Bytes.{same_bytes}
 use Rattle.text.specs.Utf8.{listed}
 use Rattle.literals.specs.declared.decoder.Body.{Body}
@@ -53,9 +53,9 @@ module _ {sw : Switches} {s : List ℕ} {c : Cursor} {i : ℕ} {st : Decoder} {f
         less = omega arith;
       })
 
-  module _ (z : f ≡ Zero) where
+  module _ (z : listed f ≡ []) where
     empty : rest sw s c ≡ decoded sw st (drop i s)
-    unfolding rest listed
+    unfolding rest
     empty = A.same ∙ rw z (sym (prepend_none (decoded sw st (drop i s))))
 
     pub walk_turn : (d : Decoded) → i < length s → d ≡ decode_step sw st (get_or s i 0) → Walked sw s c (cursor_at (i + 1) d.state d.out)
@@ -68,24 +68,6 @@ module _ {sw : Switches} {s : List ℕ} {c : Cursor} {i : ℕ} {st : Decoder} {f
 
     pub walk_end : length s ≤ i → (b : Bool) → may_end st ≡ b → rest sw s c ≡ cond b (some []) none
     walk_end h b e = empty ∙ decoded_end sw st s i h ∙ ap (λ (x : Bool). cond x (some []) none) e
-
--- the bytes after the first, by cases
-module _ (f : Few) where
-  pub first_one : (a : ℕ) → f ≡ One a → listed f ≡ a ∷ listed Zero
-  unfolding listed
-  first_one a e = rw e
-
-  pub first_two : (a b : ℕ) → f ≡ Two a b → listed f ≡ a ∷ listed (One b)
-  unfolding listed
-  first_two a b e = rw e
-
-  pub first_three : (a b d : ℕ) → f ≡ Three a b d → listed f ≡ a ∷ listed (Two b d)
-  unfolding listed
-  first_three a b d e = rw e
-
-  pub first_four : (a b d g : ℕ) → f ≡ Four a b d g → listed f ≡ a ∷ listed (Three b d g)
-  unfolding listed
-  first_four a b d g e = rw e
 
 -- ---- what a piece says
 
@@ -142,6 +124,19 @@ module _ {sw : Switches} {a b : List ℕ} {k l : Decoder} {m n : Cursor} (e : m 
 
     pub both_differ : {u v : ℕ} {i j : Cursor} → Step sw a x u i → Step sw b y v j → (u ≡ v → ⊥) → false ≡ same_content (content sw abody a) (content sw bbody b)
     both_differ {u} {v} {i} {j} p q d = goal ((λ z. same_content (p.is z) (q.is z)) ∙ byte_differ u v (rest sw a i) (rest sw b j) d)
+
+    -- the other side's next byte is not this side's, or it has none
+    pub both_byte : {u : ℕ} {i : Cursor} → Step sw a x u i → (r : Piece) → Pieced sw b y r → ((v : ℕ) (j : Cursor) → r ≡ P.Byte v j → ⊥)
+        → false ≡ same_content (content sw abody a) (content sw bbody b)
+    both_byte p (P.Byte v j) q n = absurd (n v j refl)
+    both_byte p P.End q n = both_long p q.is
+    both_byte p P.Bad q n = both_bad_2 q.is
+
+    -- the other side is not at its end
+    pub both_last : rest sw a x ≡ some [] → (r : Piece) → Pieced sw b y r → (r ≡ P.End → ⊥) → false ≡ same_content (content sw abody a) (content sw bbody b)
+    both_last p (P.Byte v j) q n = both_short p q.is
+    both_last p P.End q n = absurd (n refl)
+    both_last p P.Bad q n = both_bad_2 q.is
 
 pub both_on : {sw : Switches} {a b : List ℕ} {m n x y i j : Cursor} {u v : ℕ} → Both sw a b m n x y → Step sw a x u i → Step sw b y v j → u ≡ v
     → Both sw a b m n i j

@@ -14,8 +14,9 @@ use Rattle.text.specs.Utf8.{is_utf8, listed}
 use Rattle.literals.specs.declared.decoder.Body.{Body}
 use Rattle.literals.specs.declared.decoder.Decoder.{Decoder}
 use Rattle.literals.specs.declared.decoder.Decoded.{Decoded}
-use Rattle.literals.specs.declared.content.Measure.TheVariants as M
-use Rattle.literals.specs.declared.content.Written.TheVariants as W
+use Rattle.std.specs.declared.option.Option.TheVariants as M
+use Rattle.std.specs.declared.result.Result.TheVariants as W
+use Rattle.literals.specs.declared.content.ContentError.TheVariants.{NoContent, NoRoom}
 use Rattle.literals.specs.Content.{decode_step, may_end, prepend, decoded, start_of, content, only_utf8, content_of, measured, fitted, placed}
 use Rattle.literals.specs.InternalContent.{Sound, HasRoom}
 use Rattle.text.proofs.ListLaws.{take_sets, drop_sets}
@@ -118,12 +119,12 @@ module _ {sw : Switches} {first : Decoder} {s was out : List ℕ} {st : Decoder}
 -- ---- how a measured content fits
 
 module _ (out : List ℕ) where
-  pub fit_refused : (o : Option (List ℕ)) → measured o ≡ M.Refused → (W.Refused ≡ fitted (length out) o) × (out ≡ placed o out)
+  pub fit_refused : (o : Option (List ℕ)) → measured o ≡ M.None → (W.Err NoContent ≡ fitted (length out) o) × (out ≡ placed o out)
   unfolding measured fitted placed
   fit_refused none e = (refl, refl)
   fit_refused (some c) e = (cc, cc)
 
-  pub fit_not : (o : Option (List ℕ)) (n : ℕ) → measured o ≡ M.Length n → length out < n → (W.NoRoom ≡ fitted (length out) o) × (out ≡ placed o out)
+  pub fit_not : (o : Option (List ℕ)) (n : ℕ) → measured o ≡ M.Some n → length out < n → (W.Err NoRoom ≡ fitted (length out) o) × (out ≡ placed o out)
   unfolding measured fitted placed
   fit_not none n e h = (cc, cc)
   fit_not (some c) n e h =
@@ -131,7 +132,7 @@ module _ (out : List ℕ) where
       let y : length out < length c = omega arith in
       rw (lt-leb (length c) (length out) y) (refl, refl)
 
-  pub fit_bytes : (o : Option (List ℕ)) (n : ℕ) → measured o ≡ M.Length n → n ≤ length out → W.Bytes n ≡ fitted (length out) o
+  pub fit_bytes : (o : Option (List ℕ)) (n : ℕ) → measured o ≡ M.Some n → n ≤ length out → W.Ok n ≡ fitted (length out) o
   unfolding measured fitted
   fit_bytes none n e h = cc
   fit_bytes (some c) n e h =
@@ -139,22 +140,22 @@ module _ (out : List ℕ) where
       let y : length c ≤ length out = omega arith in
       rw (le-leb (length c) (length out) y, z)
 
-  fit_room : (o : Option (List ℕ)) (n : ℕ) → measured o ≡ M.Length n → n ≤ length out → HasRoom o (length out)
+  fit_room : (o : Option (List ℕ)) (n : ℕ) → measured o ≡ M.Some n → n ≤ length out → HasRoom o (length out)
   unfolding measured HasRoom
   fit_room none n e h = let z : ◌≡◌ {A = ℕ} 0 1 = cc in absurd (omega arith)
   fit_room (some c) n e h = let z : length c ≡ n = cc in omega arith
 
-  whole_one : (text : Bool) (o : Option (List ℕ)) (n : ℕ) → measured (cond text (only_utf8 o) o) ≡ M.Length n → cond text (only_utf8 o) o ≡ o
+  whole_one : (text : Bool) (o : Option (List ℕ)) (n : ℕ) → measured (cond text (only_utf8 o) o) ≡ M.Some n → cond text (only_utf8 o) o ≡ o
   unfolding measured only_utf8
   whole_one false o n e = refl
   whole_one true none n e = refl
   whole_one true (some c) n e = go (is_utf8 c) e
     where
-      go : (b : Bool) → measured (cond b (some c) none) ≡ M.Length n → cond b (some c) none ≡ some c
+      go : (b : Bool) → measured (cond b (some c) none) ≡ M.Some n → cond b (some c) none ≡ some c
       go true e = refl
       go false e = cc
 
-  module _ (sw : Switches) (text : Bool) (body : Body) (s : List ℕ) (n : ℕ) (e : measured (content_of sw text body s) ≡ M.Length n) where
+  module _ (sw : Switches) (text : Bool) (body : Body) (s : List ℕ) (n : ℕ) (e : measured (content_of sw text body s) ≡ M.Some n) where
     -- what has been measured, UTF-8 included, is the content
     pub fit_same : content_of sw text body s ≡ content sw body s
     unfolding content_of

@@ -15,7 +15,9 @@ use Rattle.text.specs.Bytes.{feed}
 use Rattle.text.proofs.FeedLaws.{feed_next}
 use Rattle.literals.specs.declared.number.Number.{Number}
 use Rattle.literals.specs.declared.number.Number.TheVariants.{Start, Bad, Sign, Zero, Digit, Underscore, Dot, Prefix, Based, BasedUnderscore, Fraction, FractionUnderscore, ExpLetter, ExpSign, ExpDigit, ExpUnderscore}
-use Rattle.literals.specs.declared.number.Meaning.TheVariants.{Decimal, TooWide}
+use Rattle.std.specs.declared.result.Result.TheVariants.{Ok, Err}
+use Rattle.literals.specs.declared.number.NumberValue.TheVariants.{Decimal}
+use Rattle.literals.specs.declared.number.NumberError.TheVariants.{TooWide}
 use Rattle.literals.specs.Number.{number_step, signed_by, as_integer, as_decimal, meaning}
 use Rattle.literals.specs.InternalNumber.{cap, capped, places_of}
 
@@ -176,12 +178,12 @@ few_turn n next b i e h =
 -- ---- the meaning
 
 -- above the range of integers
-pub integer_wide : (minus : Bool) (m : ℕ) → 9223372036854775808 < m → as_integer minus m ≡ TooWide
+pub integer_wide : (minus : Bool) (m : ℕ) → 9223372036854775808 < m → as_integer minus m ≡ Err TooWide
 unfolding as_integer
 integer_wide true m h = rw (lt-leb m 9223372036854775808 h)
 integer_wide false m h = let k : 9223372036854775807 < m = omega arith in rw (lt-leb m 9223372036854775807 k)
 
-pub decimal_wide : (minus : Bool) (m : ℕ) (p : ℤ) → 9223372036854775807 < m → as_decimal minus m p ≡ TooWide
+pub decimal_wide : (minus : Bool) (m : ℕ) (p : ℤ) → 9223372036854775807 < m → as_decimal minus m p ≡ Err TooWide
 unfolding as_decimal
 decimal_wide minus m p h = rw (lt-leb m 9223372036854775807 h)
 
@@ -195,26 +197,26 @@ neither_last true false = refl
 neither_last false u = refl
 
 -- a power above 400, or below -400
-pub power_high : (minus : Bool) (m n : ℕ) → 400 < n → as_decimal minus m (pos n) ≡ TooWide
+pub power_high : (minus : Bool) (m n : ℕ) → 400 < n → as_decimal minus m (pos n) ≡ Err TooWide
 unfolding as_decimal
 power_high minus m n h = rw (lt-leb n 400 h, neither_last)
 
-pub power_low : (minus : Bool) (m n : ℕ) → 400 < n → as_decimal minus m (neg_ℤ (pos n)) ≡ TooWide
+pub power_low : (minus : Bool) (m n : ℕ) → 400 < n → as_decimal minus m (neg_ℤ (pos n)) ≡ Err TooWide
 unfolding as_decimal
 power_low minus m zero h = absurd (omega arith)
 power_low minus m (suc n) h = let k : 399 < n = omega arith in rw (lt-leb n 399 k, neither)
 
-pub power_wide : (minus : Bool) (m : ℕ) (below : Bool) (n : ℕ) → 400 < n → as_decimal minus m (signed_by below n) ≡ TooWide
+pub power_wide : (minus : Bool) (m : ℕ) (below : Bool) (n : ℕ) → 400 < n → as_decimal minus m (signed_by below n) ≡ Err TooWide
 power_wide minus m true n h = power_low minus m n h
 power_wide minus m false n h = power_high minus m n h
 
 -- within both ranges
-pub decimal_good : (minus : Bool) (m n : ℕ) → m ≤ 9223372036854775807 → n ≤ 400 → as_decimal minus m (pos n) ≡ Decimal minus m (pos n)
+pub decimal_good : (minus : Bool) (m n : ℕ) → m ≤ 9223372036854775807 → n ≤ 400 → as_decimal minus m (pos n) ≡ Ok (Decimal minus m (pos n))
 unfolding as_decimal
 decimal_good minus m n h k = rw (le-leb m 9223372036854775807 h, le-leb n 400 k)
 
 pub decimal_low : (minus : Bool) (m n : ℕ) → m ≤ 9223372036854775807 → n ≤ 400
-    → as_decimal minus m (neg_ℤ (pos n)) ≡ Decimal minus m (neg_ℤ (pos n))
+    → as_decimal minus m (neg_ℤ (pos n)) ≡ Ok (Decimal minus m (neg_ℤ (pos n)))
 unfolding as_decimal
 decimal_low minus m zero h k = rw (le-leb m 9223372036854775807 h)
 decimal_low minus m (suc n) h k = let j : n ≤ 399 = omega arith in rw (le-leb m 9223372036854775807 h, le-leb n 399 j)
@@ -236,7 +238,7 @@ power_more exp (suc k) h = rw (le-ltb exp (suc k) h)
 
 -- an exponent above the cap
 exponent_wide : (minus : Bool) (m places : ℕ) (below : Bool) (exp : ℕ) → places < 9223372036854775808 → 10000000000000000000 ≤ exp
-    → as_decimal minus m (signed_by below exp +ℤ neg_ℤ (pos places)) ≡ TooWide
+    → as_decimal minus m (signed_by below exp +ℤ neg_ℤ (pos places)) ≡ Err TooWide
 exponent_wide minus m places true exp h k = rw (power_below exp places) (power_low minus m (exp + places) (omega arith))
 exponent_wide minus m places false exp h k = rw (power_more exp places (omega arith)) (power_high minus m (exp - places) (omega arith))
 

@@ -17,10 +17,6 @@ unfolding same_content
 same_none none = refl
 same_none (some a) = refl
 
-pub none_first : (y : Option (List ℕ)) → same_content none y ≡ false
-unfolding same_content
-none_first y = refl
-
 pub end_byte : (q : ℕ) (y : Option (List ℕ)) → same_content (some []) (prepend (q ∷ []) y) ≡ false
 unfolding same_content same_bytes prepend
 end_byte q none = refl

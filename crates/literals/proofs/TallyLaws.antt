@@ -3,10 +3,12 @@
 use mathlib.Core.Path.{◌≡◌, refl, sym, ap, ◌∙◌, subst}
 use Prim.Native.Nat.{ℕ, zero, suc, ◌+◌, ◌<◌, ◌≤◌}
 use native.Mathlib.Omega.{arith}
-use mathlib.Core.Bool.{Bool, true, false, not, cond, ◌||◌}
+use mathlib.Core.Bool.{Bool, true, false, not, cond, ◌&&◌, ◌||◌}
 use mathlib.Core.Option.{Option, none, some}
 use mathlib.Core.List.{List, [], ◌∷◌, ◌++◌}
 use lib.ListN.{length, drop, get_or, length-append}
+use Rattle.std.specs.List.{between}
+use Rattle.std.proofs.lemmas.List.Edits.{get_or-between, length-between}
 use borrow.Author.Tests.{le-leb}
 use Rattle.text.specs.declared.switches.Switches.{Switches}
 use Rattle.text.specs.declared.utf8.Utf8.{Utf8}
@@ -20,17 +22,17 @@ use Rattle.literals.specs.declared.decoder.Body.{Body}
 use Rattle.literals.specs.declared.decoder.Body.TheVariants.{Quoted, Raw, Base64, Word}
 use Rattle.literals.specs.declared.decoder.Decoder.{Decoder}
 use Rattle.literals.specs.declared.decoder.Decoded.{Decoded}
-use Rattle.literals.specs.declared.content.Measure.{Measure}
-use Rattle.literals.specs.declared.content.Measure.TheVariants.{Length, Refused}
+use Rattle.std.specs.declared.option.Option as M
+use Rattle.std.specs.declared.option.Option.TheVariants.{Some, None}
 use Rattle.literals.specs.Content.{gives, decode_step, may_end, prepend, decoded, start_of, content, only_utf8, content_of, measured}
 use Rattle.literals.specs.InternalContent.{bit_room, Sound, AsWritten}
 use Rattle.text.proofs.FewLaws.{read_feed}
 use Rattle.literals.proofs.StepLaws.{spent, good_next, decoded_turn, decoded_end}
 
 -- the measure of a content of which n bytes have gone by, by which the UTF-8 machine stands at u
-unfoldable pub tally : Bool → Utf8 → ℕ → Option (List ℕ) → Measure
-tally text u n none = Refused
-tally text u n (some c) = cond (not text || is_whole (feed utf8_step u c)) (Length (n + length c)) Refused
+unfoldable pub tally : Bool → Utf8 → ℕ → Option (List ℕ) → M.Option ℕ
+tally text u n none = None
+tally text u n (some c) = cond (not text || is_whole (feed utf8_step u c)) (Some (n + length c)) None
 
 tally_prepend : (text : Bool) (u : Utf8) (n : ℕ) (xs : List ℕ) (o : Option (List ℕ))
     → tally text u n (prepend xs o) ≡ tally text (feed utf8_step u xs) (n + length xs) o
@@ -39,7 +41,7 @@ tally_prepend text u n xs none = refl
 tally_prepend text u n xs (some c) =
     let l = length-append xs c in
     let p : n + length (xs ++ c) ≡ n + length xs + length c = omega arith in
-    λ z. cond (not text || is_whole (feed_append utf8_step u xs c z)) (Length (p z)) Refused
+    λ z. cond (not text || is_whole (feed_append utf8_step u xs c z)) (Some (p z)) None
 
 -- what the machine stands at is asked of texts only
 tally_text_only : (text : Bool) (u v : Utf8) (n : ℕ) (o : Option (List ℕ)) → tally text v n o ≡ tally text (cond text v u) n o
@@ -61,10 +63,10 @@ tally_whole true (some c) = go (is_whole (feed utf8_step (Whole 0) c))
     none_more : length c ≡ 0 + length c
     none_more = omega arith
 
-    go : (b : Bool) → measured (cond b (some c) none) ≡ cond b (Length (0 + length c)) Refused
-    go true = ap Length none_more
+    go : (b : Bool) → measured (cond b (some c) none) ≡ cond b (Some (0 + length c)) None
+    go true = ap Some none_more
     go false = refl
-tally_whole false (some c) = let e : length c ≡ 0 + length c = omega arith in ap Length e
+tally_whole false (some c) = let e : length c ≡ 0 + length c = omega arith in ap Some e
 
 pub start_sound : (body : Body) → Sound (start_of body) × (spent (start_of body) ≡ 0)
 unfolding Sound start_of spent bit_room
@@ -72,6 +74,14 @@ start_sound Quoted = (tt, refl)
 start_sound Raw = (tt, refl)
 start_sound Base64 = (omega arith, refl)
 start_sound Word = (tt, refl)
+
+-- the bytes of `s` from `from` on: the one at j is there, and it is the one of `s` at from + j
+pub past : (s : List ℕ) (from j : ℕ) → j < length (between from (length s) s)
+    → (from + j < length s) × (get_or (between from (length s) s) j 0 ≡ get_or s (from + j) 0)
+past s from j h =
+    let l = length-between s from (length s) (omega arith) in
+    let k : from + j < length s = omega arith in
+    (k, get_or-between s from (length s) j 0 k)
 
 -- what the loop knows at i, where the decoder was at `first` at the start
 pub record Tallied (sw : Switches) (text : Bool) (first : Decoder) (s : List ℕ) (st : Decoder) (u : Utf8) (n i : ℕ) : Type 0 where
@@ -171,16 +181,20 @@ module _ {sw : Switches} {text : Bool} {first : Decoder} {s : List ℕ} {st : De
     none_left : n + 0 ≡ n
     none_left = omega arith
 
-    ends : may_end st ≡ true → measured (content_of sw text body s) ≡ cond (not text || is_whole u) (Length n) Refused
+    ends : may_end st ≡ true → measured (content_of sw text body s) ≡ cond (not text || is_whole u) (Some n) None
     unfolding tally feed
-    ends e = at_end_law true e ∙ ap (λ (k : ℕ). cond (not text || is_whole u) (Length k) Refused) none_left
+    ends e = at_end_law true e ∙ ap (λ (k : ℕ). cond (not text || is_whole u) (Some k) None) none_left
 
-    pub tally_cut : may_end st ≡ false → Refused ≡ measured (content_of sw text body s)
+    tally_cut : may_end st ≡ false → measured (content_of sw text body s) ≡ None
     unfolding tally
-    tally_cut e = sym (at_end_law false e)
+    tally_cut e = at_end_law false e
 
-    pub tally_bytes : may_end st ≡ true → text ≡ false → Length n ≡ measured (content_of sw text body s)
-    tally_bytes e t = sym (ends e ∙ ap (λ (b : Bool). cond (not b || is_whole u) (Length n) Refused) t)
+    pub tally_some : may_end st ≡ true → (not text || is_whole u) ≡ true → Some n ≡ measured (content_of sw text body s)
+    tally_some e w = sym (ends e ∙ (λ z. cond (w z) (Some n) None))
 
-    pub tally_text : may_end st ≡ true → text ≡ true → (b : Bool) → is_whole u ≡ b → cond b (Length n) Refused ≡ measured (content_of sw text body s)
-    tally_text e t b w = sym (ends e ∙ (λ z. cond (not (t z) || w z) (Length n) Refused))
+    pub tally_end : measured (content_of sw text body s) ≡ cond (may_end st && (not text || is_whole u)) (Some n) None
+    tally_end = by_end (may_end st) refl
+      where
+        by_end : (b : Bool) → may_end st ≡ b → measured (content_of sw text body s) ≡ cond (may_end st && (not text || is_whole u)) (Some n) None
+        by_end true e = ends e ∙ (λ z. cond (sym e z && (not text || is_whole u)) (Some n) None)
+        by_end false e = tally_cut e ∙ (λ z. cond (sym e z && (not text || is_whole u)) (Some n) None)

@@ -14,10 +14,10 @@ use Rattle.literals.specs.declared.decoder.Body.TheVariants.{Quoted, Raw, Base64
 use Rattle.literals.specs.declared.decoder.Decoder.{Decoder}
 use Rattle.literals.specs.declared.decoder.Decoder.TheVariants.{Plain, Escape, Hex, Verbatim, Letters, Digits, Pads, Bad}
 use Rattle.literals.specs.declared.decoder.Decoded.{Decoded}
-use Rattle.literals.specs.declared.content.Measure.{Measure}
-use Rattle.literals.specs.declared.content.Measure.TheVariants as M
-use Rattle.literals.specs.declared.content.Written.{Written}
-use Rattle.literals.specs.declared.content.Written.TheVariants as W
+use Rattle.std.specs.declared.option.Option as M
+use Rattle.std.specs.declared.result.Result as W
+use Rattle.literals.specs.declared.content.ContentError.{ContentError}
+use Rattle.literals.specs.declared.content.ContentError.TheVariants.{NoContent, NoRoom}
 
 -- the decoder's next state, and the bytes of content known with it
 abbrev pub gives : Decoder → Few → Decoded
@@ -199,14 +199,14 @@ content_of sw text body s = cond text (only_utf8 (content sw body s)) (content s
 -- ---- what the functions answer
 
 -- how long a content is, if there is one
-unfoldable pub measured : Option (List ℕ) → Measure
-measured none = M.Refused
-measured (some bytes) = M.Length (length bytes)
+unfoldable pub measured : Option (List ℕ) → M.Option ℕ
+measured none = M.TheVariants.None
+measured (some bytes) = M.TheVariants.Some (length bytes)
 
 -- what writing a content answers: its length, or that there is none, or no room for it
-unfoldable pub fitted : (room : ℕ) → Option (List ℕ) → Written
-fitted room none = W.Refused
-fitted room (some bytes) = cond (leb (length bytes) room) (W.Bytes (length bytes)) W.NoRoom
+unfoldable pub fitted : (room : ℕ) → Option (List ℕ) → W.Result ℕ ContentError
+fitted room none = W.TheVariants.Err NoContent
+fitted room (some bytes) = cond (leb (length bytes) room) (W.TheVariants.Ok (length bytes)) (W.TheVariants.Err NoRoom)
 
 -- "writes its content at the output's front; the rest of the output stays"; where it has no room, nothing is written
 unfoldable pub placed : Option (List ℕ) → List ℕ → List ℕ

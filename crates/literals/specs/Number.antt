@@ -6,8 +6,12 @@ use Rattle.std.specs.Int.Signed.{le_z}
 use Rattle.text.specs.Bytes.{feed, is, between, is_digit_in, digit_value}
 use Rattle.literals.specs.declared.number.Number.{Number}
 use Rattle.literals.specs.declared.number.Number.TheVariants.{Start, Bad, Sign, Zero, Digit, Underscore, Dot, Prefix, Based, BasedUnderscore, Fraction, FractionUnderscore, ExpLetter, ExpSign, ExpDigit, ExpUnderscore}
-use Rattle.literals.specs.declared.number.Meaning.{Meaning}
-use Rattle.literals.specs.declared.number.Meaning.TheVariants.{Integer, Decimal, Malformed, TooWide}
+use Rattle.std.specs.declared.result.Result.{Result}
+use Rattle.std.specs.declared.result.Result.TheVariants.{Ok, Err}
+use Rattle.literals.specs.declared.number.NumberValue.{NumberValue}
+use Rattle.literals.specs.declared.number.NumberValue.TheVariants.{Integer, Decimal}
+use Rattle.literals.specs.declared.number.NumberError.{NumberError}
+use Rattle.literals.specs.declared.number.NumberError.TheVariants.{Malformed, TooWide}
 
 -- a "sign": `+` or `-`
 abbrev pub is_sign : ℕ → Bool
@@ -82,33 +86,37 @@ most = 9223372036854775807
 abbrev pub signed_by : (minus : Bool) → ℕ → ℤ
 signed_by minus n = cond minus (neg_ℤ (pos n)) (pos n)
 
+-- what a number token means, or why nothing
+abbrev pub Meaning : Type 0
+Meaning = Result NumberValue NumberError
+
 -- "Range of a signed 64-bit integer .. -0 is 0"
 unfoldable pub as_integer : (minus : Bool) (m : ℕ) → Meaning
-as_integer minus m = cond (leb m (cond minus (suc most) most)) (Integer (signed_by minus m)) TooWide
+as_integer minus m = cond (leb m (cond minus (suc most) most)) (Ok (Integer (signed_by minus m))) (Err TooWide)
 
 -- "m over 9223372036854775807, or p outside -400..400, is refused with 5" (`negsuc 399` is -400)
 unfoldable pub as_decimal : (minus : Bool) (m : ℕ) (p : ℤ) → Meaning
-as_decimal minus m p = cond (leb m most && le_z (negsuc 399) p && le_z p (pos 400)) (Decimal minus m p) TooWide
+as_decimal minus m p = cond (leb m most && le_z (negsuc 399) p && le_z p (pos 400)) (Ok (Decimal minus m p)) (Err TooWide)
 
 -- "sign, whole number m of all its digits, and power of ten p = exponent minus count of fraction digits"; a machine that stops
 -- where no number ends is malformed
 unfoldable pub meaning : Number → Meaning
-meaning Start = Malformed
-meaning Bad = Malformed
-meaning (Sign minus) = Malformed
+meaning Start = Err Malformed
+meaning Bad = Err Malformed
+meaning (Sign minus) = Err Malformed
 meaning (Zero signed minus) = as_integer minus 0
 meaning (Digit minus m) = as_integer minus m
-meaning (Underscore minus m) = Malformed
-meaning (Dot minus m) = Malformed
-meaning (Prefix base) = Malformed
+meaning (Underscore minus m) = Err Malformed
+meaning (Dot minus m) = Err Malformed
+meaning (Prefix base) = Err Malformed
 meaning (Based base m) = as_integer false m
-meaning (BasedUnderscore base m) = Malformed
+meaning (BasedUnderscore base m) = Err Malformed
 meaning (Fraction minus m places) = as_decimal minus m (neg_ℤ (pos places))
-meaning (FractionUnderscore minus m places) = Malformed
-meaning (ExpLetter minus m places) = Malformed
-meaning (ExpSign minus m places below) = Malformed
+meaning (FractionUnderscore minus m places) = Err Malformed
+meaning (ExpLetter minus m places) = Err Malformed
+meaning (ExpSign minus m places below) = Err Malformed
 meaning (ExpDigit minus m places below exp) = as_decimal minus m (signed_by below exp +ℤ neg_ℤ (pos places))
-meaning (ExpUnderscore minus m places below exp) = Malformed
+meaning (ExpUnderscore minus m places below exp) = Err Malformed
 
 -- the meaning of a number token's bytes
 unfoldable pub number : List ℕ → Meaning

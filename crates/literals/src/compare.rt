@@ -15,6 +15,7 @@ pub struct Cursor {
     pub out: Few,
 }
 
+// kept: three outcomes in one enum; the patterns of a Result of an Option of the two are no plainer.
 // The next byte of a content and the cursor after it, or that the content is at its end, or that there is none.
 #[derive(Clone, Copy)]
 pub enum Piece {
@@ -38,32 +39,20 @@ fn next_byte(sw: Switches, s: &[u8], from: Cursor) -> Piece
     let mut state = from.state;
     let mut few = from.out;
     loop {
-        match few {
-            Few::Zero => {
-                if s.len() <= i {
-                    if may_end(state) {
-                        return Piece::End;
-                    }
-                    return Piece::Bad;
-                }
-                let step = decode_step(sw, state, s[i]);
-                state = step.state;
-                few = step.out;
-                i += 1;
-            }
-            Few::One(a) => {
-                return Piece::Byte(a, cursor_at(i, state, Few::Zero));
-            }
-            Few::Two(a, b) => {
-                return Piece::Byte(a, cursor_at(i, state, Few::One(b)));
-            }
-            Few::Three(a, b, d) => {
-                return Piece::Byte(a, cursor_at(i, state, Few::Two(b, d)));
-            }
-            Few::Four(a, b, d, e) => {
-                return Piece::Byte(a, cursor_at(i, state, Few::Three(b, d, e)));
-            }
+        if let Some((b, rest)) = few.split_first() {
+            return Piece::Byte(b, cursor_at(i, state, rest));
         }
+        if s.len() <= i {
+            return if may_end(state) {
+                Piece::End
+            } else {
+                Piece::Bad
+            };
+        }
+        let step = decode_step(sw, state, s[i]);
+        state = step.state;
+        few = step.out;
+        i += 1;
     }
 }
 
@@ -83,27 +72,10 @@ pub fn same_content(sw: Switches, abody: Body, a: &[u8], bbody: Body, b: &[u8]) 
                     left = left_next;
                     right = right_next;
                 }
-                Piece::End => {
-                    return false;
-                }
-                Piece::Bad => {
-                    return false;
-                }
+                _ => return false,
             },
-            Piece::End => match next_byte(sw, b, right) {
-                Piece::Byte(_, _) => {
-                    return false;
-                }
-                Piece::End => {
-                    return true;
-                }
-                Piece::Bad => {
-                    return false;
-                }
-            },
-            Piece::Bad => {
-                return false;
-            }
+            Piece::End => return matches!(next_byte(sw, b, right), Piece::End),
+            Piece::Bad => return false,
         }
     }
 }

@@ -4,24 +4,16 @@ ghost use Rattle.std.specs.Prelude.{◌≡◌, length};
 ghost use Rattle.literals.specs.Content.{content, content_of, measured, fitted, placed};
 ghost use Rattle.literals.specs.InternalContent.{HasRoom, PlainFront, AsWritten};
 
-use crate::copy::is_own_byte;
+use crate::copy::{is_own_byte, is_plain};
 use crate::decoder::{Body, decode_step, may_end, start_of};
-use text::few::{Few, feed_text, few_len, put_few};
+use text::few::{Few, feed_text};
 use text::switches::Switches;
-use text::utf8::{Utf8, is_whole};
+use text::utf8::Utf8;
 
-// How long a body's content is, or that it has none.
-#[derive(Clone, Copy)]
-pub enum Measure {
-    Length(usize),
-    Refused,
-}
-
-// What writing a content to an output did: the bytes written, or nothing, for want of a content or of room.
-#[derive(Clone, Copy)]
-pub enum Written {
-    Bytes(usize),
-    Refused,
+// Why a content was not written: there is none, or the output has no room for it.
+#[derive(Clone, Copy, Debug, PartialEq, Eq)]
+pub enum ContentError {
+    NoContent,
     NoRoom,
 }
 
@@ -29,18 +21,9 @@ pub enum Written {
 fn plain_front(s: &[u8]) -> usize
     ensures { PlainFront s.now result }
 {
+    // kept: counted by `front`, as the lexer's runs are, a long string read slower by two thirds.
     let mut i = 0;
-    while i < s.len() {
-        let b = s[i];
-        if b < b' ' {
-            return i;
-        }
-        if b'~' < b {
-            return i;
-        }
-        if b == b'\\' {
-            return i;
-        }
+    while i < s.len() && is_plain(s[i]) {
         i += 1;
     }
     i
@@ -51,47 +34,36 @@ fn written_front(body: Body, s: &[u8]) -> usize
     ensures { AsWritten body s.now result }
 {
     match body {
-        Body::Quoted => plain_front(s),
-        Body::Raw => plain_front(s),
         Body::Base64 => 0,
-        Body::Word => plain_front(s),
+        _ => plain_front(s),
     }
 }
 
-// The length of a body's content. A text's must be UTF-8: the machine that judges it is fed along. Both start after the bytes that
+// The length of a body's content, if it has one. A text's must be UTF-8: the machine that judges it is fed along. Both start after the bytes that
 // stand for themselves.
-pub fn measure_content(sw: Switches, is_text: bool, body: Body, s: &[u8]) -> Measure
+pub fn measure_content(sw: Switches, is_text: bool, body: Body, s: &[u8]) -> Option<usize>
     ensures { result ≡ measured (content_of sw is_text body s.now) }
 {
     let from = written_front(body, s);
     let mut state = start_of(body);
     let mut machine = Utf8::Whole(from);
     let mut size = from;
-    let mut i = from;
-    while i < s.len() {
-        let b = s[i];
-        i += 1;
-        if is_own_byte(state, b) {
+    for b in &s[from..] {
+        if is_own_byte(state, *b) {
             size += 1;
-            machine = feed_text(is_text, machine, Few::One(b));
+            machine = feed_text(is_text, machine, Few::One(*b));
         } else {
-            let step = decode_step(sw, state, b);
-            let out = step.out;
+            let step = decode_step(sw, state, *b);
             state = step.state;
-            size += few_len(out);
-            machine = feed_text(is_text, machine, out);
+            size += step.out.len();
+            machine = feed_text(is_text, machine, step.out);
         }
     }
-    if may_end(state) {
-        if is_text {
-            if is_whole(machine) {
-                return Measure::Length(size);
-            }
-            return Measure::Refused;
-        }
-        return Measure::Length(size);
+    if may_end(state) && (!is_text || machine.is_whole()) {
+        Some(size)
+    } else {
+        None
     }
-    Measure::Refused
 }
 
 // Writes a body's content, which has been measured, at the output's front.
@@ -101,29 +73,30 @@ fn fill_front(sw: Switches, body: Body, s: &[u8], out: &mut [u8])
 {
     let mut state = start_of(body);
     let mut filled = 0;
-    let mut i = 0;
-    while i < s.len() {
-        let step = decode_step(sw, state, s[i]);
-        let few = step.out;
+    for b in s {
+        let step = decode_step(sw, state, *b);
         state = step.state;
-        put_few(out, filled, few);
-        filled += few_len(few);
-        i += 1;
+        step.out.put(out, filled);
+        filled += step.out.len();
     }
 }
 
-// Writes a body's content at the output's front, if it has one and the output has room for it.
-pub fn write_content(sw: Switches, is_text: bool, body: Body, s: &[u8], out: &mut [u8]) -> Written
+// Writes a body's content at the output's front, if it has one and the output has room for it, and answers how long it is.
+pub fn write_content(
+    sw: Switches,
+    is_text: bool,
+    body: Body,
+    s: &[u8],
+    out: &mut [u8],
+) -> Result<usize, ContentError>
     ensures { (result ≡ fitted (length out.old) (content_of sw is_text body s.now)) × (out.new ≡ placed (content_of sw is_text body s.now) out.old) }
 {
     match measure_content(sw, is_text, body, s) {
-        Measure::Refused => Written::Refused,
-        Measure::Length(n) => {
-            if out.len() < n {
-                return Written::NoRoom;
-            }
+        None => Err(ContentError::NoContent),
+        Some(n) if out.len() < n => Err(ContentError::NoRoom),
+        Some(n) => {
             fill_front(sw, body, s, out);
-            Written::Bytes(n)
+            Ok(n)
         }
     }
 }

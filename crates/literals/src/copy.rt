@@ -1,42 +1,30 @@
 // The content of a string or key that is known to have one, written in one go: nothing is measured before, and bytes that stand for
 // themselves do not go through the decoder.
-ghost use Rattle.std.specs.Prelude.{◌≤◌, length};
+ghost use Rattle.std.specs.Prelude.{◌≡◌, ◌≤◌, true, length};
 ghost use Rattle.literals.specs.Content.{content};
-ghost use Rattle.literals.specs.InternalContent.{OwnByteIf, Copied};
+ghost use Rattle.literals.specs.InternalContent.{PlainByte, OwnByteIf, Copied};
 
 use crate::decoder::{Body, Decoder, decode_step, start_of};
-use text::few::{few_len, put_few};
 use text::switches::Switches;
 
 // What opens an escape.
 const BACKSLASH: u8 = b'\\';
 
+// Whether a byte is printable ASCII other than the backslash: such a byte stands for itself in every body but base64.
+pub(crate) fn is_plain(b: u8) -> bool
+    ensures { result ≡ true → PlainByte b }
+{
+    matches!(b, b' '..=b'~') && b != BACKSLASH
+}
+
 // Whether a byte stands for itself in this state, and leaves the decoder in it, so far as it is printable ASCII.
+#[tactic(auto, using(crate::proofs::PlainLaws::own_byte), unfolding(crate::proofs::PlainLaws::plainly))]
 pub(crate) fn is_own_byte(state: Decoder, b: u8) -> bool
     ensures { OwnByteIf state b result }
 {
-    if b < b' ' {
-        return false;
-    }
-    if b'~' < b {
-        return false;
-    }
-    if b == BACKSLASH {
-        return false;
-    }
     match state {
-        Decoder::Plain => true,
-        Decoder::Escape => false,
-        Decoder::Hex {
-            byte: _,
-            left: _,
-            value: _,
-        } => false,
-        Decoder::Verbatim => true,
-        Decoder::Letters => true,
-        Decoder::Digits { phase: _, rest: _ } => false,
-        Decoder::Pads { left: _ } => false,
-        Decoder::Bad => false,
+        Decoder::Plain | Decoder::Verbatim | Decoder::Letters => is_plain(b),
+        _ => false,
     }
 }
 
@@ -48,25 +36,21 @@ pub fn copy_content(sw: Switches, body: Body, s: &[u8], out: &mut [u8], at: usiz
 {
     let mut state = start_of(body);
     let mut end = at;
-    let mut next = 0;
-    while next < s.len() {
-        let b = s[next];
-        next += 1;
-        if is_own_byte(state, b) {
+    for b in s {
+        if is_own_byte(state, *b) {
             if end == out.len() {
                 return out.len() + 1;
             }
-            out[end] = b;
+            out[end] = *b;
             end += 1;
         } else {
-            let step = decode_step(sw, state, b);
-            let few = step.out;
-            let size = few_len(few);
+            let step = decode_step(sw, state, *b);
+            let size = step.out.len();
             if out.len() - end < size {
                 return out.len() + 1;
             }
             state = step.state;
-            put_few(out, end, few);
+            step.out.put(out, end);
             end += size;
         }
     }

@@ -1,5 +1,5 @@
 // The decoder of contents: fed the bytes between the quotes one by one, it gives the content's bytes.
-ghost use Rattle.std.specs.Prelude.{◌≡◌, ◌<◌, ◌*◌};
+ghost use Rattle.std.specs.Prelude.{◌≡◌, ◌<◌, ◌*◌, MatchOption};
 ghost use Rattle.text.specs.Bytes.{is_space};
 ghost use Rattle.text.specs.Utf8.{encode};
 ghost use Rattle.literals.specs.Content.{
@@ -41,12 +41,9 @@ const DELETE: u8 = 0x7f;
 // The scalar values are those up to the last but the surrogates.
 const FIRST_SURROGATE: u32 = 0xd800;
 
-const LAST_SURROGATE: u32 = 0xdfff;
+const AFTER_SURROGATES: u32 = 0xe000;
 
 const LAST_SCALAR: u32 = 0x10ffff;
-
-// What is answered for a byte that is no base64 digit: above every digit's value.
-const NO_SEXTET: u8 = 64;
 
 // What stands between the quotes, or a word: how its bytes are to be decoded.
 #[derive(Clone, Copy)]
@@ -81,6 +78,7 @@ pub struct Decoded {
 }
 
 // The decoder at the start of a body.
+#[tactic(auto, unfolding(crate::specs::Content::start_of))]
 pub(crate) fn start_of(body: Body) -> Decoder
     ensures { result ≡ start_of body }
 {
@@ -113,93 +111,71 @@ fn single(state: Decoder, b: u8) -> Decoded
 }
 
 // Whether a byte may not stand unescaped in a quoted body.
+#[tactic(auto, unfolding(crate::specs::Content::quoted_refuses))]
 fn quoted_refuses(sw: Switches, b: u8) -> bool
     ensures { result ≡ quoted_refuses sw b }
 {
-    if LAST_CONTROL < b {
-        return b == DELETE;
+    match b {
+        b'\t' => !sw.quoted_tab,
+        b'\n' => !sw.quoted_feed,
+        0..=LAST_CONTROL | DELETE => true,
+        _ => false,
     }
-    if b == b'\t' {
-        return !sw.quoted_tab;
-    }
-    if b == b'\n' {
-        return !sw.quoted_feed;
-    }
-    true
 }
 
+#[tactic(auto, unfolding(crate::specs::Content::plain_step))]
 fn plain_step(sw: Switches, b: u8) -> Decoded
     ensures { result ≡ plain_step sw b }
 {
     if b == b'\\' {
-        return silent(Decoder::Escape);
+        silent(Decoder::Escape)
+    } else if quoted_refuses(sw, b) {
+        silent(Decoder::Bad)
+    } else {
+        single(Decoder::Plain, b)
     }
-    if quoted_refuses(sw, b) {
-        return silent(Decoder::Bad);
-    }
-    single(Decoder::Plain, b)
 }
 
 // The letter of an escape of several digits.
+#[tactic(auto, unfolding(crate::specs::Content::many_digits))]
 fn many_digits(sw: Switches, b: u8) -> Decoded
     ensures { result ≡ many_digits sw b }
 {
-    if b == b'x' {
-        return silent(Decoder::Hex {
+    match b {
+        b'x' => silent(Decoder::Hex {
             byte: true,
             left: 1,
             value: 0,
-        });
-    }
-    if b == b'u' {
-        return silent(Decoder::Hex {
+        }),
+        b'u' => silent(Decoder::Hex {
             byte: false,
             left: 3,
             value: 0,
-        });
+        }),
+        b'U' if sw.long_escape => silent(Decoder::Hex {
+            byte: false,
+            left: 7,
+            value: 0,
+        }),
+        _ => silent(Decoder::Bad),
     }
-    if sw.long_escape {
-        if b == b'U' {
-            return silent(Decoder::Hex {
-                byte: false,
-                left: 7,
-                value: 0,
-            });
-        }
-        return silent(Decoder::Bad);
-    }
-    silent(Decoder::Bad)
 }
 
 // The byte after a backslash.
+#[tactic(auto, unfolding(crate::specs::Content::escape_step, crate::specs::Content::one_letter, crate::specs::Content::escaped))]
 fn escape_step(sw: Switches, b: u8) -> Decoded
     ensures { result ≡ escape_step sw b }
 {
-    if b == b'0' {
-        return single(Decoder::Plain, b'\0');
+    match b {
+        b'0' => single(Decoder::Plain, b'\0'),
+        b'b' => single(Decoder::Plain, BACKSPACE),
+        b't' => single(Decoder::Plain, b'\t'),
+        b'n' => single(Decoder::Plain, b'\n'),
+        b'f' => single(Decoder::Plain, FORM_FEED),
+        b'r' => single(Decoder::Plain, b'\r'),
+        b'"' | b'\\' => single(Decoder::Plain, b),
+        _ => many_digits(sw, b),
     }
-    if b == b'b' {
-        return single(Decoder::Plain, BACKSPACE);
-    }
-    if b == b't' {
-        return single(Decoder::Plain, b'\t');
-    }
-    if b == b'n' {
-        return single(Decoder::Plain, b'\n');
-    }
-    if b == b'f' {
-        return single(Decoder::Plain, FORM_FEED);
-    }
-    if b == b'r' {
-        return single(Decoder::Plain, b'\r');
-    }
-    if b == b'"' {
-        return single(Decoder::Plain, b'"');
-    }
-    if b == b'\\' {
-        return single(Decoder::Plain, b'\\');
-    }
-    many_digits(sw, b)
 }
 
 // The UTF-8 of a scalar value, between characters again.
@@ -214,6 +190,7 @@ fn scalar_done(value: u32) -> Decoded
 }
 
 // An escape's last digit has been read, with this value.
+#[tactic(auto, unfolding(text::specs::Utf8::is_scalar, crate::specs::Content::hex_done, crate::specs::InternalContent::hex_room))]
 fn hex_done(byte: bool, value: u32) -> Decoded
     requires { value < 16 * hex_room byte 0 }
     ensures { result ≡ hex_done byte value }
@@ -221,19 +198,14 @@ fn hex_done(byte: bool, value: u32) -> Decoded
     if byte {
         return single(Decoder::Plain, value as u8);
     }
-    if value < FIRST_SURROGATE {
-        return scalar_done(value);
+    match value {
+        0..FIRST_SURROGATE | AFTER_SURROGATES..=LAST_SCALAR => scalar_done(value),
+        _ => silent(Decoder::Bad),
     }
-    if value <= LAST_SURROGATE {
-        return silent(Decoder::Bad);
-    }
-    if value <= LAST_SCALAR {
-        return scalar_done(value);
-    }
-    silent(Decoder::Bad)
 }
 
 // A digit of an escape has been read, with the value so far, and `left` digits are due.
+#[tactic(auto, unfolding(crate::specs::Content::hex_digit))]
 fn hex_digit(byte: bool, left: usize, value: u32) -> Decoded
     requires { value < 16 * hex_room byte left }
     ensures { result ≡ hex_digit byte left value }
@@ -248,134 +220,101 @@ fn hex_digit(byte: bool, left: usize, value: u32) -> Decoded
     })
 }
 
+#[tactic(auto, using(crate::proofs::DecoderLaws::room_small), unfolding(crate::specs::Content::hex_step))]
 fn hex_step(byte: bool, left: usize, value: u32, b: u8) -> Decoded
     requires { value < hex_room byte left }
     ensures { result ≡ hex_step byte left value b }
 {
-    let d = digit_value(b);
-    if d < 16 {
-        return hex_digit(byte, left, value * 16 + d as u32);
+    match digit_value(b) {
+        Some(d) => hex_digit(byte, left, value * 16 + u32::from(d)),
+        None => silent(Decoder::Bad),
     }
-    silent(Decoder::Bad)
 }
 
 // Whether a byte may not stand in a raw body.
+#[tactic(auto, unfolding(crate::specs::Content::raw_refuses))]
 fn raw_refuses(sw: Switches, b: u8) -> bool
     ensures { result ≡ raw_refuses sw b }
 {
-    if b == DELETE {
-        return true;
+    match b {
+        b'\n' => false,
+        b'\r' => !sw.raw_return,
+        0..=LAST_CONTROL | DELETE => true,
+        _ => false,
     }
-    if LAST_CONTROL < b {
-        return false;
-    }
-    if b == b'\n' {
-        return false;
-    }
-    if b == b'\r' {
-        return !sw.raw_return;
-    }
-    true
 }
 
+#[tactic(auto, unfolding(crate::specs::Content::raw_step))]
 fn raw_step(sw: Switches, b: u8) -> Decoded
     ensures { result ≡ raw_step sw b }
 {
     if raw_refuses(sw, b) {
-        return silent(Decoder::Bad);
+        silent(Decoder::Bad)
+    } else {
+        single(Decoder::Verbatim, b)
     }
-    single(Decoder::Verbatim, b)
 }
 
 fn is_space(b: u8) -> bool
     ensures { result ≡ is_space b }
 {
-    if b == b'\t' {
-        return true;
-    }
-    if b == b'\n' {
-        return true;
-    }
-    if b == b'\r' {
-        return true;
-    }
-    b == b' '
+    matches!(b, b'\t' | b'\n' | b'\r' | b' ')
 }
 
-// The value of a base64 digit; NO_SEXTET for any other byte.
-fn sextet(b: u8) -> u8
-    ensures { result ≡ sextet b }
+// The value of a base64 digit.
+#[tactic(auto, unfolding(crate::specs::Content::sextet))]
+fn sextet(b: u8) -> Option<u8>
+    ensures { MatchOption result (sextet b ≡ 64) (λ v. (v ≡ sextet b) × (v < 64)) }
 {
-    if b == b'+' {
-        return 62;
+    match b {
+        b'A'..=b'Z' => Some(b - b'A'),
+        b'a'..=b'z' => Some(b - b'a' + 26),
+        b'0'..=b'9' => Some(b - b'0' + 52),
+        b'+' => Some(62),
+        b'/' => Some(63),
+        _ => None,
     }
-    if b < b'/' {
-        return NO_SEXTET;
-    }
-    if b == b'/' {
-        return 63;
-    }
-    if b <= b'9' {
-        return b - b'0' + 52;
-    }
-    if b < b'A' {
-        return NO_SEXTET;
-    }
-    if b <= b'Z' {
-        return b - b'A';
-    }
-    if b < b'a' {
-        return NO_SEXTET;
-    }
-    if b <= b'z' {
-        return b - b'a' + 26;
-    }
-    NO_SEXTET
 }
 
 // A base64 digit of this value: the bits that it adds to `rest` make a byte, but for the first digit of four.
+#[tactic(auto, unfolding(crate::specs::Content::base64_digit, crate::specs::InternalContent::bit_room))]
 fn base64_digit(phase: u8, rest: u8, value: u8) -> Decoded
     requires { (rest < bit_room phase) × (value < 64) }
     ensures { result ≡ base64_digit phase rest value }
 {
-    if phase == 0 {
-        return silent(Decoder::Digits {
+    match phase {
+        0 => silent(Decoder::Digits {
             phase: 1,
             rest: value,
-        });
-    }
-    if phase == 1 {
-        return single(
+        }),
+        1 => single(
             Decoder::Digits {
                 phase: 2,
                 rest: value % 16,
             },
             rest * 4 + value / 16,
-        );
-    }
-    if phase == 2 {
-        return single(
+        ),
+        2 => single(
             Decoder::Digits {
                 phase: 3,
                 rest: value % 4,
             },
             rest * 16 + value / 4,
-        );
+        ),
+        _ => single(Decoder::Digits { phase: 0, rest: 0 }, rest * 64 + value),
     }
-    single(Decoder::Digits { phase: 0, rest: 0 }, rest * 64 + value)
 }
 
 // Whether no digit stands alone and no bit is left over.
+#[tactic(auto, unfolding(crate::specs::Content::whole_bytes))]
 fn whole_bytes(phase: u8, rest: u8) -> bool
     ensures { result ≡ whole_bytes phase rest }
 {
-    if phase == 1 {
-        return false;
-    }
-    rest == 0
+    phase != 1 && rest == 0
 }
 
 // A pad where `left` may stand.
+#[tactic(auto, unfolding(crate::specs::Content::pad))]
 fn pad_step(left: u8) -> Decoded
     ensures { result ≡ pad left }
 {
@@ -385,6 +324,7 @@ fn pad_step(left: u8) -> Decoded
     silent(Decoder::Pads { left: left - 1 })
 }
 
+#[tactic(auto, unfolding(crate::specs::Content::digits_step))]
 fn digits_step(phase: u8, rest: u8, b: u8) -> Decoded
     requires { rest < bit_room phase }
     ensures { result ≡ digits_step phase rest b }
@@ -393,32 +333,34 @@ fn digits_step(phase: u8, rest: u8, b: u8) -> Decoded
         return silent(Decoder::Digits { phase, rest });
     }
     if b == b'=' {
-        if whole_bytes(phase, rest) {
-            return pad_step((4 - phase) % 4);
-        }
-        return silent(Decoder::Bad);
+        return if whole_bytes(phase, rest) {
+            pad_step((4 - phase) % 4)
+        } else {
+            silent(Decoder::Bad)
+        };
     }
-    let value = sextet(b);
-    if value < NO_SEXTET {
-        return base64_digit(phase, rest, value);
+    match sextet(b) {
+        Some(value) => base64_digit(phase, rest, value),
+        None => silent(Decoder::Bad),
     }
-    silent(Decoder::Bad)
 }
 
+#[tactic(auto, unfolding(crate::specs::Content::pads_step))]
 fn pads_step(left: u8, b: u8) -> Decoded
     ensures { result ≡ pads_step left b }
 {
     if is_space(b) {
-        return silent(Decoder::Pads { left });
+        silent(Decoder::Pads { left })
+    } else if b == b'=' {
+        pad_step(left)
+    } else {
+        silent(Decoder::Bad)
     }
-    if b == b'=' {
-        return pad_step(left);
-    }
-    silent(Decoder::Bad)
 }
 
 // The decoder after one byte more. The modules beside this one start it at `start_of` and feed it bytes: then its numbers have room
 // for what is due.
+#[tactic(auto, unfolding(crate::specs::Content::decode_step, crate::specs::InternalContent::Sound))]
 pub(crate) fn decode_step(sw: Switches, state: Decoder, b: u8) -> Decoded
     requires { Sound state }
     ensures { result ≡ decode_step sw state b }
@@ -436,21 +378,13 @@ pub(crate) fn decode_step(sw: Switches, state: Decoder, b: u8) -> Decoded
 }
 
 // Whether a body may end where the decoder stands.
+#[tactic(auto, unfolding(crate::specs::Content::may_end))]
 pub(crate) fn may_end(state: Decoder) -> bool
     ensures { result ≡ may_end state }
 {
     match state {
-        Decoder::Plain => true,
-        Decoder::Escape => false,
-        Decoder::Hex {
-            byte: _,
-            left: _,
-            value: _,
-        } => false,
-        Decoder::Verbatim => true,
-        Decoder::Letters => true,
+        Decoder::Plain | Decoder::Verbatim | Decoder::Letters | Decoder::Pads { .. } => true,
         Decoder::Digits { phase, rest } => whole_bytes(phase, rest),
-        Decoder::Pads { left: _ } => true,
-        Decoder::Bad => false,
+        Decoder::Escape | Decoder::Hex { .. } | Decoder::Bad => false,
     }
 }

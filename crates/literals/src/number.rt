@@ -1,7 +1,7 @@
 // Numbers: a machine over the bytes of a number token, and what the token means at its end.
-ghost use Rattle.std.specs.Prelude.{◌≡◌, ◌<◌, ◌+◌, ◌*◌, pos, neg_ℤ, ◌+ℤ◌};
-ghost use Rattle.text.specs.Bytes.{digit_value};
-ghost use Rattle.literals.specs.Number.{is_e, is_one_to_nine, base_of, number_step, signed_by, as_integer, as_decimal, meaning, number};
+ghost use Rattle.std.specs.Prelude.{◌≡◌, ◌<◌, ◌+◌, ◌*◌, true, false, pos, neg_ℤ, ◌+ℤ◌, MatchOption};
+ghost use Rattle.text.specs.Bytes.{is_digit_in, digit_value};
+ghost use Rattle.literals.specs.Number.{number_step, signed_by, as_integer, as_decimal, meaning, number};
 ghost use Rattle.literals.specs.InternalNumber.{cap, capped, places_of};
 
 use text::bytes::digit_value;
@@ -91,16 +91,22 @@ pub enum Number {
     },
 }
 
-// What a number token means: an integer; a decimal, (-1)^minus * m * 10^p; or refusal 3 or 5.
-#[derive(Clone, Copy)]
-pub enum Meaning {
+// What a number token means: an integer, or a decimal, (-1)^minus * m * 10^p.
+#[derive(Clone, Copy, Debug, PartialEq, Eq)]
+pub enum NumberValue {
     Integer(i64),
     Decimal { minus: bool, m: u64, p: i64 },
+}
+
+// Why a number token means nothing: no number ends where it does, or its number is out of range (refusals 3 and 5).
+#[derive(Clone, Copy, Debug, PartialEq, Eq)]
+pub enum NumberError {
     Malformed,
     TooWide,
 }
 
 // m with one more digit, exact up to the cap.
+#[tactic(auto, unfolding(crate::specs::InternalNumber::cap))]
 fn and_digit(base: u64, m: u64, d: u64) -> u64
     requires base_nonzero { 0 < base }
     requires d_bound { d < 256 }
@@ -109,312 +115,252 @@ fn and_digit(base: u64, m: u64, d: u64) -> u64
     if CAP / base < m {
         return CAP;
     }
-    let longer = m * base + d;
-    if CAP < longer {
-        return CAP;
-    }
-    longer
+    (m * base + d).min(CAP)
 }
 
-// The value of a digit in a base up to 16, or 16, as wide as what it is added to.
-fn digit_of(b: u8) -> u64
-    ensures value { result ≡ digit_value b }
-    ensures upper_bound { result < 256 }
+// The value of a digit in this base, which is at most 16. The definition counts any other byte as 16.
+fn digit_in(base: u64, b: u8) -> Option<u64>
+    ensures { MatchOption result (is_digit_in base b ≡ false) (λ d. (is_digit_in base b ≡ true) × (d ≡ digit_value b) × (d < 256)) }
 {
-    digit_value(b) as u64
-}
-
-fn is_e(b: u8) -> bool
-    ensures { result ≡ is_e b }
-{
-    if b == b'e' {
-        return true;
-    }
-    b == b'E'
-}
-
-fn is_one_to_nine(b: u8) -> bool
-    ensures { result ≡ is_one_to_nine b }
-{
-    if b < b'1' {
-        return false;
-    }
-    b <= b'9'
-}
-
-// The base that a letter after a first 0 names, or 0.
-fn base_of(b: u8) -> u64
-    ensures { result ≡ base_of b }
-{
-    if b == b'x' {
-        return 16;
-    }
-    if b == b'o' {
-        return 8;
-    }
-    if b == b'b' {
-        return 2;
-    }
-    0
+    let d = match digit_value(b) {
+        Some(d) => u64::from(d),
+        None => 16,
+    };
+    if d < base { Some(d) } else { None }
 }
 
 // The machine's step, one function for each state that goes on. Each contract says that the answer is the definition's next state
 // up to the cap.
+#[tactic(auto, unfolding(text::specs::Bytes::digit_value, crate::specs::Number::number_step, crate::specs::InternalNumber::capped))]
 fn start_step(b: u8) -> Number
     ensures { capped result ≡ capped (number_step Number.Start b) }
 {
-    if b == b'+' {
-        return Number::Sign { minus: false };
-    }
-    if b == b'-' {
-        return Number::Sign { minus: true };
-    }
-    if b == b'0' {
-        return Number::Zero {
+    match b {
+        b'+' => Number::Sign { minus: false },
+        b'-' => Number::Sign { minus: true },
+        b'0' => Number::Zero {
             signed: false,
             minus: false,
-        };
-    }
-    if is_one_to_nine(b) {
-        return Number::Digit {
+        },
+        b'1'..=b'9' => Number::Digit {
             minus: false,
-            m: digit_of(b),
-        };
+            m: u64::from(b - b'0'),
+        },
+        _ => Number::Bad,
     }
-    Number::Bad
 }
 
+#[tactic(auto, unfolding(text::specs::Bytes::digit_value, crate::specs::Number::number_step, crate::specs::InternalNumber::capped))]
 fn sign_step(minus: bool, b: u8) -> Number
     ensures { capped result ≡ capped (number_step (Number.Sign minus) b) }
 {
-    if b == b'0' {
-        return Number::Zero {
+    match b {
+        b'0' => Number::Zero {
             signed: true,
             minus,
-        };
-    }
-    if is_one_to_nine(b) {
-        return Number::Digit {
+        },
+        b'1'..=b'9' => Number::Digit {
             minus,
-            m: digit_of(b),
-        };
+            m: u64::from(b - b'0'),
+        },
+        _ => Number::Bad,
     }
-    Number::Bad
 }
 
+#[tactic(auto, unfolding(crate::specs::Number::base_of, crate::specs::Number::number_step, crate::specs::InternalNumber::capped))]
 fn zero_step(signed: bool, minus: bool, b: u8) -> Number
     ensures { capped result ≡ capped (number_step (Number.Zero signed minus) b) }
 {
-    if b == b'.' {
-        return Number::Dot { minus, m: 0 };
-    }
-    if is_e(b) {
-        return Number::ExpLetter {
+    match b {
+        b'.' => Number::Dot { minus, m: 0 },
+        b'e' | b'E' => Number::ExpLetter {
             minus,
             m: 0,
             places: 0,
-        };
+        },
+        b'x' if !signed => Number::Prefix { base: 16 },
+        b'o' if !signed => Number::Prefix { base: 8 },
+        b'b' if !signed => Number::Prefix { base: 2 },
+        _ => Number::Bad,
     }
-    if signed {
-        return Number::Bad;
-    }
-    let base = base_of(b);
-    if 0 < base {
-        return Number::Prefix { base };
-    }
-    Number::Bad
 }
 
+#[tactic(auto, using(crate::proofs::NumberLaws::cap_cap), unfolding(crate::specs::Number::number_step, crate::specs::InternalNumber::capped))]
 fn digit_step(minus: bool, m: u64, b: u8) -> Number
     ensures { capped result ≡ capped (number_step (Number.Digit minus m) b) }
 {
-    let d = digit_of(b);
-    if d < 10 {
-        return Number::Digit {
+    match digit_in(10, b) {
+        Some(d) => Number::Digit {
             minus,
             m: and_digit(10, m, d),
-        };
+        },
+        None => match b {
+            b'_' => Number::Underscore { minus, m },
+            b'.' => Number::Dot { minus, m },
+            b'e' | b'E' => Number::ExpLetter {
+                minus,
+                m,
+                places: 0,
+            },
+            _ => Number::Bad,
+        },
     }
-    if b == b'_' {
-        return Number::Underscore { minus, m };
-    }
-    if b == b'.' {
-        return Number::Dot { minus, m };
-    }
-    if is_e(b) {
-        return Number::ExpLetter {
-            minus,
-            m,
-            places: 0,
-        };
-    }
-    Number::Bad
 }
 
+#[tactic(auto, using(crate::proofs::NumberLaws::cap_cap), unfolding(crate::specs::Number::number_step, crate::specs::InternalNumber::capped))]
 fn underscore_step(minus: bool, m: u64, b: u8) -> Number
     ensures { capped result ≡ capped (number_step (Number.Underscore minus m) b) }
 {
-    let d = digit_of(b);
-    if d < 10 {
-        return Number::Digit {
+    match digit_in(10, b) {
+        Some(d) => Number::Digit {
             minus,
             m: and_digit(10, m, d),
-        };
+        },
+        None => Number::Bad,
     }
-    Number::Bad
 }
 
+#[tactic(auto, using(crate::proofs::NumberLaws::cap_cap), unfolding(crate::specs::Number::number_step, crate::specs::InternalNumber::capped))]
 fn dot_step(minus: bool, m: u64, b: u8) -> Number
     ensures { capped result ≡ capped (number_step (Number.Dot minus m) b) }
 {
-    let d = digit_of(b);
-    if d < 10 {
-        return Number::Fraction {
+    match digit_in(10, b) {
+        Some(d) => Number::Fraction {
             minus,
             m: and_digit(10, m, d),
             places: 1,
-        };
+        },
+        None => Number::Bad,
     }
-    Number::Bad
 }
 
+#[tactic(auto, unfolding(crate::specs::Number::number_step, crate::specs::InternalNumber::capped))]
 fn prefix_step(base: u64, b: u8) -> Number
     ensures { capped result ≡ capped (number_step (Number.Prefix base) b) }
 {
-    let d = digit_of(b);
-    if d < base {
-        return Number::Based { base, m: d };
+    match digit_in(base, b) {
+        Some(d) => Number::Based { base, m: d },
+        None => Number::Bad,
     }
-    Number::Bad
 }
 
+#[tactic(auto, using(crate::proofs::NumberLaws::cap_cap), unfolding(crate::specs::Number::number_step, crate::specs::InternalNumber::capped))]
 fn based_step(base: u64, m: u64, b: u8) -> Number
     ensures { capped result ≡ capped (number_step (Number.Based base m) b) }
 {
-    let d = digit_of(b);
-    if d < base {
-        return Number::Based {
+    match digit_in(base, b) {
+        Some(d) => Number::Based {
             base,
             m: and_digit(base, m, d),
-        };
+        },
+        None => match b {
+            b'_' => Number::BasedUnderscore { base, m },
+            _ => Number::Bad,
+        },
     }
-    if b == b'_' {
-        return Number::BasedUnderscore { base, m };
-    }
-    Number::Bad
 }
 
+#[tactic(auto, using(crate::proofs::NumberLaws::cap_cap), unfolding(crate::specs::Number::number_step, crate::specs::InternalNumber::capped))]
 fn based_underscore_step(base: u64, m: u64, b: u8) -> Number
     ensures { capped result ≡ capped (number_step (Number.BasedUnderscore base m) b) }
 {
-    let d = digit_of(b);
-    if d < base {
-        return Number::Based {
+    match digit_in(base, b) {
+        Some(d) => Number::Based {
             base,
             m: and_digit(base, m, d),
-        };
+        },
+        None => Number::Bad,
     }
-    Number::Bad
 }
 
+#[tactic(auto, using(crate::proofs::NumberLaws::cap_cap), unfolding(crate::specs::Number::number_step, crate::specs::InternalNumber::capped))]
 fn fraction_step(minus: bool, m: u64, places: u64, b: u8) -> Number
     requires { places < 18446744073709551615 }
     ensures { capped result ≡ capped (number_step (Number.Fraction minus m places) b) }
 {
-    let d = digit_of(b);
-    if d < 10 {
-        return Number::Fraction {
+    match digit_in(10, b) {
+        Some(d) => Number::Fraction {
             minus,
             m: and_digit(10, m, d),
             places: places + 1,
-        };
+        },
+        None => match b {
+            b'_' => Number::FractionUnderscore { minus, m, places },
+            b'e' | b'E' => Number::ExpLetter { minus, m, places },
+            _ => Number::Bad,
+        },
     }
-    if b == b'_' {
-        return Number::FractionUnderscore { minus, m, places };
-    }
-    if is_e(b) {
-        return Number::ExpLetter { minus, m, places };
-    }
-    Number::Bad
 }
 
+#[tactic(auto, using(crate::proofs::NumberLaws::cap_cap), unfolding(crate::specs::Number::number_step, crate::specs::InternalNumber::capped))]
 fn fraction_underscore_step(minus: bool, m: u64, places: u64, b: u8) -> Number
     requires { places < 18446744073709551615 }
     ensures { capped result ≡ capped (number_step (Number.FractionUnderscore minus m places) b) }
 {
-    let d = digit_of(b);
-    if d < 10 {
-        return Number::Fraction {
+    match digit_in(10, b) {
+        Some(d) => Number::Fraction {
             minus,
             m: and_digit(10, m, d),
             places: places + 1,
-        };
+        },
+        None => Number::Bad,
     }
-    Number::Bad
 }
 
+#[tactic(auto, unfolding(crate::specs::Number::number_step, crate::specs::InternalNumber::capped))]
 fn exp_letter_step(minus: bool, m: u64, places: u64, b: u8) -> Number
     ensures { capped result ≡ capped (number_step (Number.ExpLetter minus m places) b) }
 {
-    if b == b'+' {
-        return Number::ExpSign {
+    match b {
+        b'+' => Number::ExpSign {
             minus,
             m,
             places,
             below: false,
-        };
-    }
-    if b == b'-' {
-        return Number::ExpSign {
+        },
+        b'-' => Number::ExpSign {
             minus,
             m,
             places,
             below: true,
-        };
+        },
+        // no sign: judged as a first digit, as after a `+`
+        _ => exp_sign_step(minus, m, places, false, b),
     }
-    // no sign: judged as a first digit, as after a `+`
-    exp_sign_step(minus, m, places, false, b)
 }
 
+#[tactic(auto, unfolding(crate::specs::Number::number_step, crate::specs::InternalNumber::capped))]
 fn exp_sign_step(minus: bool, m: u64, places: u64, below: bool, b: u8) -> Number
     ensures { capped result ≡ capped (number_step (Number.ExpSign minus m places below) b) }
 {
-    let exp = digit_of(b);
-    if 10 <= exp {
-        return Number::Bad;
-    }
-    Number::ExpDigit {
-        minus,
-        m,
-        places,
-        below,
-        exp,
-    }
+    // a first digit: judged as a further one, after 0
+    exp_underscore_step(minus, m, places, below, 0, b)
 }
 
+#[tactic(auto, unfolding(text::specs::Bytes::digit_value, crate::specs::Number::number_step, crate::specs::InternalNumber::capped))]
 fn exp_digit_step(minus: bool, m: u64, places: u64, below: bool, exp: u64, b: u8) -> Number
     ensures { capped result ≡ capped (number_step (Number.ExpDigit minus m places below exp) b) }
 {
-    if b == b'_' {
-        return Number::ExpUnderscore {
+    match b {
+        b'_' => Number::ExpUnderscore {
             minus,
             m,
             places,
             below,
             exp,
-        };
+        },
+        // no underscore: judged as a digit, as after one
+        _ => exp_underscore_step(minus, m, places, below, exp, b),
     }
-    // no underscore: judged as a digit, as after one
-    exp_underscore_step(minus, m, places, below, exp, b)
 }
 
+#[tactic(auto, using(crate::proofs::NumberLaws::cap_cap), unfolding(crate::specs::Number::number_step, crate::specs::InternalNumber::capped))]
 fn exp_underscore_step(minus: bool, m: u64, places: u64, below: bool, exp: u64, b: u8) -> Number
     ensures { capped result ≡ capped (number_step (Number.ExpUnderscore minus m places below exp) b) }
 {
-    let d = digit_of(b);
-    if 10 <= d {
+    let Some(d) = digit_in(10, b) else {
         return Number::Bad;
-    }
+    };
     Number::ExpDigit {
         minus,
         m,
@@ -425,6 +371,7 @@ fn exp_underscore_step(minus: bool, m: u64, places: u64, below: bool, exp: u64, 
 }
 
 // The machine after one byte more.
+#[tactic(auto, unfolding(crate::specs::Number::number_step, crate::specs::InternalNumber::capped, crate::specs::InternalNumber::places_of))]
 fn number_step(state: Number, b: u8) -> Number
     requires { places_of state < 18446744073709551615 }
     ensures { capped result ≡ capped (number_step state b) }
@@ -469,52 +416,58 @@ fn number_step(state: Number, b: u8) -> Number
 }
 
 // An integer's meaning. Its lowest is one below the negative of MOST, so the sign is taken from m - 1, which fits.
-fn as_integer(minus: bool, m: u64) -> Meaning
+fn as_integer(minus: bool, m: u64) -> Result<NumberValue, NumberError>
     ensures { result ≡ as_integer minus m }
 {
     if minus {
         if MOST + 1 < m {
-            return Meaning::TooWide;
+            return Err(NumberError::TooWide);
         }
         if m == 0 {
-            return Meaning::Integer(0);
+            return Ok(NumberValue::Integer(0));
         }
         let less = (m - 1) as i64;
-        return Meaning::Integer(-1 - less);
+        return Ok(NumberValue::Integer(-1 - less));
     }
     if MOST < m {
-        return Meaning::TooWide;
+        return Err(NumberError::TooWide);
     }
-    Meaning::Integer(m as i64)
+    Ok(NumberValue::Integer(m as i64))
 }
 
 // A decimal's meaning with this power, or its negative where it is below 0.
-fn as_decimal(minus: bool, m: u64, below: bool, power: u64) -> Meaning
+fn as_decimal(minus: bool, m: u64, below: bool, power: u64) -> Result<NumberValue, NumberError>
     ensures { result ≡ as_decimal minus m (signed_by below power) }
 {
     if MOST < m {
-        return Meaning::TooWide;
+        return Err(NumberError::TooWide);
     }
     if MOST_POWER < power {
-        return Meaning::TooWide;
+        return Err(NumberError::TooWide);
     }
     let p = power as i64;
     if below {
-        return Meaning::Decimal { minus, m, p: 0 - p };
+        return Ok(NumberValue::Decimal { minus, m, p: 0 - p });
     }
-    Meaning::Decimal { minus, m, p }
+    Ok(NumberValue::Decimal { minus, m, p })
 }
 
 // A decimal's meaning with an exponent.
-fn with_exponent(minus: bool, m: u64, places: u64, below: bool, exp: u64) -> Meaning
+fn with_exponent(
+    minus: bool,
+    m: u64,
+    places: u64,
+    below: bool,
+    exp: u64,
+) -> Result<NumberValue, NumberError>
     ensures { result ≡ as_decimal minus m (signed_by below exp +ℤ neg_ℤ (pos places)) }
 {
     if below {
         if MOST_POWER < exp {
-            return Meaning::TooWide;
+            return Err(NumberError::TooWide);
         }
         if MOST_POWER < places {
-            return Meaning::TooWide;
+            return Err(NumberError::TooWide);
         }
         return as_decimal(minus, m, true, exp + places);
     }
@@ -525,37 +478,15 @@ fn with_exponent(minus: bool, m: u64, places: u64, below: bool, exp: u64) -> Mea
 }
 
 // What the machine means where it stops.
-fn meaning_of(state: Number) -> Meaning
+#[tactic(auto, unfolding(crate::specs::Number::meaning))]
+fn meaning_of(state: Number) -> Result<NumberValue, NumberError>
     ensures { result ≡ meaning state }
 {
     match state {
-        Number::Start => Meaning::Malformed,
-        Number::Bad => Meaning::Malformed,
-        Number::Sign { minus: _ } => Meaning::Malformed,
-        Number::Zero { signed: _, minus } => as_integer(minus, 0),
+        Number::Zero { minus, .. } => as_integer(minus, 0),
         Number::Digit { minus, m } => as_integer(minus, m),
-        Number::Underscore { minus: _, m: _ } => Meaning::Malformed,
-        Number::Dot { minus: _, m: _ } => Meaning::Malformed,
-        Number::Prefix { base: _ } => Meaning::Malformed,
-        Number::Based { base: _, m } => as_integer(false, m),
-        Number::BasedUnderscore { base: _, m: _ } => Meaning::Malformed,
+        Number::Based { m, .. } => as_integer(false, m),
         Number::Fraction { minus, m, places } => as_decimal(minus, m, true, places),
-        Number::FractionUnderscore {
-            minus: _,
-            m: _,
-            places: _,
-        } => Meaning::Malformed,
-        Number::ExpLetter {
-            minus: _,
-            m: _,
-            places: _,
-        } => Meaning::Malformed,
-        Number::ExpSign {
-            minus: _,
-            m: _,
-            places: _,
-            below: _,
-        } => Meaning::Malformed,
         Number::ExpDigit {
             minus,
             m,
@@ -563,25 +494,17 @@ fn meaning_of(state: Number) -> Meaning
             below,
             exp,
         } => with_exponent(minus, m, places, below, exp),
-        Number::ExpUnderscore {
-            minus: _,
-            m: _,
-            places: _,
-            below: _,
-            exp: _,
-        } => Meaning::Malformed,
+        _ => Err(NumberError::Malformed),
     }
 }
 
 // What a number token means.
-pub fn number_of(token: &[u8]) -> Meaning
+pub fn number_of(token: &[u8]) -> Result<NumberValue, NumberError>
     ensures { result ≡ number token.now }
 {
     let mut state = Number::Start;
-    let mut i = 0;
-    while i < token.len() {
-        state = number_step(state, token[i]);
-        i += 1;
+    for b in token {
+        state = number_step(state, *b);
     }
     meaning_of(state)
 }

@@ -16,100 +16,52 @@ pub enum Shape {
 fn is_letter(b: u8) -> bool
     ensures { result ≡ (is_capital b || is_small b) }
 {
-    if b < b'A' {
-        return false;
-    }
-    if b <= b'Z' {
-        return true;
-    }
-    if b < b'a' {
-        return false;
-    }
-    b <= b'z'
+    matches!(b, b'A'..=b'Z' | b'a'..=b'z')
 }
 
+#[tactic(auto, unfolding(text::specs::Bytes::is_letter_or_digit))]
 fn is_letter_or_digit(b: u8) -> bool
     ensures { result ≡ is_letter_or_digit b }
 {
-    if is_letter(b) {
-        return true;
-    }
-    if b < b'0' {
-        return false;
-    }
-    b <= b'9'
+    matches!(b, b'A'..=b'Z' | b'a'..=b'z' | b'0'..=b'9')
 }
 
 // Whether a `_` or `-` stands here.
 fn is_joiner(b: u8) -> bool
     ensures { result ≡ is_joiner b }
 {
-    if b == b'_' {
-        return true;
-    }
-    b == b'-'
+    matches!(b, b'_' | b'-')
 }
 
 // The shape after one byte more.
+#[tactic(auto, unfolding(crate::specs::Word::shape_step))]
 fn shape_step(state: Shape, b: u8) -> Shape
     ensures { result ≡ shape_step state b }
 {
     match state {
-        Shape::Start => {
-            if b == b'_' {
-                return Shape::Lead;
-            }
-            if is_letter(b) {
-                return Shape::Good;
-            }
-            Shape::Bad
-        }
-        Shape::Lead => {
-            if is_letter_or_digit(b) {
-                return Shape::Good;
-            }
-            Shape::Bad
-        }
-        Shape::Good => {
-            if is_letter_or_digit(b) {
-                return Shape::Good;
-            }
-            if is_joiner(b) {
-                return Shape::Joined;
-            }
-            Shape::Bad
-        }
-        Shape::Joined => {
-            if is_letter_or_digit(b) {
-                return Shape::Good;
-            }
-            Shape::Bad
-        }
-        Shape::Bad => Shape::Bad,
+        Shape::Start if b == b'_' => Shape::Lead,
+        Shape::Start if is_letter(b) => Shape::Good,
+        Shape::Lead | Shape::Good | Shape::Joined if is_letter_or_digit(b) => Shape::Good,
+        Shape::Good if is_joiner(b) => Shape::Joined,
+        _ => Shape::Bad,
     }
 }
 
+#[tactic(auto, unfolding(crate::specs::Word::is_good))]
 fn is_good(state: Shape) -> bool
     ensures { result ≡ is_good state }
 {
-    match state {
-        Shape::Start => false,
-        Shape::Lead => false,
-        Shape::Good => true,
-        Shape::Joined => false,
-        Shape::Bad => false,
-    }
+    matches!(state, Shape::Good)
 }
 
 // Whether the whole slice has the shape of a word.
+#[tactic(auto, unfolding(crate::specs::Word::has_shape))]
 pub fn has_shape(s: &[u8]) -> bool
     ensures { result ≡ has_shape s.now }
 {
     let mut state = Shape::Start;
-    let mut i = 0;
-    while i < s.len() {
-        state = shape_step(state, s[i]);
-        i += 1;
+    for b in s {
+        state = shape_step(state, *b);
     }
     is_good(state)
 }

@@ -1,5 +1,6 @@
 -- The walks over a node's children, by key and by index, way out by way out.
 -- Assumes nothing.
+use Rattle.std.specs.Prelude.{Some, None}
 use mathlib.Core.Path.{◌≡◌, refl, sym, ap, ◌∙◌, subst}
 use Prim.Native.Nat.{ℕ, zero, suc, ◌+◌, ◌-◌, ◌*◌, ◌≤◌, ◌<◌}
 use native.Mathlib.Numerals.{add-one}
@@ -16,10 +17,10 @@ use Rattle.reader.specs.Content.{span_content}
 use Rattle.nodes.specs.Nodes.{children_of, Numbered, numbered, first_that, nth, content_of_key, has_key, member, element}
 use Rattle.nodes.specs.Answers.{childAnswer}
 use Rattle.nodes.specs.Stands.{Node, Stands, KindIs, MemberIs, ElementIs}
-use Rattle.nodes.specs.declared.children.Child.{Child}
-use Rattle.nodes.specs.declared.children.Child.TheVariants as C
+use Rattle.std.specs.declared.option.Option as Rust
 use Rattle.nodes.proofs.WordLaws.{first_of, second_of, word_in, word_key, word_kind}
-use Rattle.nodes.proofs.WalkLaws.{Walk, Here, walk_start, walk_here, walk_done, walk_next}
+use Rattle.nodes.specs.declared.children.Children.{Children}
+use Rattle.nodes.proofs.WalkLaws.{Walk, Here, walk_start, walk_here, walk_done, walk_next, WalksOver, Gave}
 use Rattle.nodes.proofs.ContentLaws.{nothing_there}
 
 -- what a node's words 4 and 5 say of its key
@@ -42,12 +43,12 @@ kind_answer table n r e = record { is = λ t N. e ∙ word_kind table n t N }
 
 -- ---- what an answer tells
 
-pub answer_at : (o : Option Numbered) (m : ℕ) → childAnswer o ≡ C.At m → (v : Tree) × (o ≡ some (numbered m v))
+pub answer_at : (o : Option Numbered) (m : ℕ) → childAnswer o ≡ Some m → (v : Tree) × (o ≡ some (numbered m v))
 unfolding childAnswer
 answer_at none m e = let v : ◌≡◌ {A = ℕ} 0 1 = cc in absurd (omega arith)
 answer_at (some c) m e = (c.value, let q : c.number ≡ m = cc in ap (λ (k : ℕ). some (numbered k c.value)) q)
 
-pub answer_nothing : (o : Option Numbered) → childAnswer o ≡ C.Nothing → o ≡ none
+pub answer_nothing : (o : Option Numbered) → childAnswer o ≡ None → o ≡ none
 unfolding childAnswer
 answer_nothing none e = refl
 answer_nothing (some c) e = cc
@@ -59,10 +60,13 @@ pub record FirstWalk (p : Tree → Bool) (table : List ℕ) (n x : ℕ) : Type 0
   pub of : (t : Tree) → Node table n t → Walk (λ y f. first_that p y f ≡ first_that p (suc n) (children_of t)) table n x
 
 -- the answer is the number of the first child that passes, or that there is none
-pub record FirstIs (p : Tree → Bool) (table : List ℕ) (n : ℕ) (r : Child) : Type 0 where
+pub record FirstIs (p : Tree → Bool) (table : List ℕ) (n : ℕ) (r : Rust.Option ℕ) : Type 0 where
   pub is : (t : Tree) → Node table n t → r ≡ childAnswer (first_that p (suc n) (children_of t))
 
 module _ (p : Tree → Bool) (table : List ℕ) (n : ℕ) where
+  pub first_at : (x : ℕ) (s t : Children) → FirstWalk p table n s.next → Gave table n x s t → FirstWalk p table n x
+  first_at x s t W G = subst (FirstWalk p table n) G.at W
+
   pub first_start : FirstWalk p table n (n + 1)
   first_start =
       record {
@@ -79,11 +83,11 @@ module _ (p : Tree → Bool) (table : List ℕ) (n : ℕ) where
     unfolding FirstHere
     first_here h t N = walk_here (λ y f. first_that p y f ≡ first_that p (suc n) (children_of t)) table n x (W.of t N) (omega arith)
 
-    pub first_hit : x < end → ((v : Tree) → Node table x v → p v ≡ true) → FirstIs p table n (C.At x)
+    pub first_hit : x < end → ((v : Tree) → Node table x v → p v ≡ true) → FirstIs p table n (Some x)
     unfolding FirstHere first_that childAnswer
     first_hit h passes = record { is = λ t N. at t (first_here h t N) }
       where
-        at : (t : Tree) → FirstHere t x → C.At x ≡ childAnswer (first_that p (suc n) (children_of t))
+        at : (t : Tree) → FirstHere t x → Some x ≡ childAnswer (first_that p (suc n) (children_of t))
         at t H =
             sym (ap (λ (b : Bool). childAnswer (cond b (some (numbered x H.value)) (first_that p (x + size H.value) H.later))) (passes H.value H.node))
             ∙ ap childAnswer H.so
@@ -97,7 +101,7 @@ module _ (p : Tree → Bool) (table : List ℕ) (n : ℕ) where
             walk_next (λ z f. first_that p z f ≡ first_that p (suc n) (children_of t)) (λ z f. first_that p z f ≡ first_that p (suc n) (children_of t)) table n x y H g
             (sym (ap (λ (b : Bool). cond b (some (numbered x H.value)) (first_that p (x + size H.value) H.later)) (fails H.value H.node)) ∙ H.so)
 
-    pub first_end : end ≤ x → FirstIs p table n C.Nothing
+    pub first_end : end ≤ x → FirstIs p table n None
     unfolding first_that childAnswer
     first_end h =
         record {
@@ -114,18 +118,20 @@ module _ (sw : Switches) (text key table : List ℕ) (n : ℕ) where
   key_told x a e r b p q s y v N =
       sym (key_asked sw text key table x v N) ∙ (λ i. same_content (span_content sw (sym p i) (sym q i) text) (some key)) ∙ sym s ∙ y
 
-  pub member_hit : (x end a e : ℕ) (r : Bool) → FirstWalk (has_key sw text key) table n x → end ≡ word_of table n 8 → x < end → a ≡ word_of table x 4 → e ≡ word_of table x 5
-      → r ≡ same_content (span_content sw a e text) (some key) → r ≡ true → MemberIs sw text key table n (C.At x)
+  pub member_hit : (s t : Children) (x a e : ℕ) (r : Bool) → FirstWalk (has_key sw text key) table n s.next → Gave table n x s t → a ≡ word_of table x 4
+      → e ≡ word_of table x 5 → r ≡ same_content (span_content sw a e text) (some key) → r ≡ true → MemberIs sw text key table n (Some x)
   unfolding member
-  member_hit x end a e r W g h p q s y = record { is = (first_hit (has_key sw text key) table n x end W g h (key_told x a e r true p q s y)).is }
+  member_hit s t x a e r W G p q f y =
+      record { is = (first_hit (has_key sw text key) table n x s.end (first_at (has_key sw text key) table n x s t W G) G.ends G.before (key_told x a e r true p q f y)).is }
 
-  pub member_on : (x end a e y : ℕ) (r : Bool) → FirstWalk (has_key sw text key) table n x → end ≡ word_of table n 8 → x < end → a ≡ word_of table x 4 → e ≡ word_of table x 5
-      → r ≡ same_content (span_content sw a e text) (some key) → r ≡ false → y ≡ word_of table x 8 → FirstWalk (has_key sw text key) table n y
-  member_on x end a e y r W z h p q s f g = first_on (has_key sw text key) table n x end W z y h (key_told x a e r false p q s f) g
+  pub member_on : (s t : Children) (x a e : ℕ) (r : Bool) → FirstWalk (has_key sw text key) table n s.next → Gave table n x s t → a ≡ word_of table x 4
+      → e ≡ word_of table x 5 → r ≡ same_content (span_content sw a e text) (some key) → r ≡ false → FirstWalk (has_key sw text key) table n t.next
+  member_on s t x a e r W G p q f y =
+      first_on (has_key sw text key) table n x s.end (first_at (has_key sw text key) table n x s t W G) G.ends t.next G.before (key_told x a e r false p q f y) G.on
 
-  pub member_end : (x end : ℕ) → FirstWalk (has_key sw text key) table n x → end ≡ word_of table n 8 → end ≤ x → MemberIs sw text key table n C.Nothing
+  pub member_end : (s : Children) → FirstWalk (has_key sw text key) table n s.next → WalksOver table n s → s.end ≤ s.next → MemberIs sw text key table n None
   unfolding member
-  member_end x end W e h = record { is = (first_end (has_key sw text key) table n x end W e h).is }
+  member_end s W O h = record { is = (first_end (has_key sw text key) table n s.next s.end W O.end_is h).is }
 
 -- ---- by index
 
@@ -145,13 +151,16 @@ module _ (i : ℕ) (table : List ℕ) (n : ℕ) where
   element_here : (left x end : ℕ) → ElementWalk i table n left x → end ≡ word_of table n 8 → x < end → (t : Tree) → Node table n t → ElementHere t left x
   element_here left x end W e h t N = walk_here (λ y f. nth left y f ≡ element i n t) table n x (W.of t N) (omega arith)
 
-  hit_by : (t : Tree) (left x : ℕ) → ElementHere t left x → left ≡ 0 → C.At x ≡ childAnswer (element i n t)
+  hit_by : (t : Tree) (left x : ℕ) → ElementHere t left x → left ≡ 0 → Some x ≡ childAnswer (element i n t)
   unfolding nth childAnswer
   hit_by t zero x H z = ap childAnswer H.so
   hit_by t (suc left) x H z = absurd (omega arith)
 
-  pub element_hit : (left x end : ℕ) → ElementWalk i table n left x → end ≡ word_of table n 8 → x < end → left ≡ 0 → ElementIs i table n (C.At x)
-  element_hit left x end W e h z = record { is = λ t N. hit_by t left x (element_here left x end W e h t N) z }
+  element_at : (left x : ℕ) (s t : Children) → ElementWalk i table n left s.next → Gave table n x s t → ElementWalk i table n left x
+  element_at left x s t W G = subst (ElementWalk i table n left) G.at W
+
+  pub element_hit : (left x : ℕ) (s t : Children) → ElementWalk i table n left s.next → Gave table n x s t → left ≡ 0 → ElementIs i table n (Some x)
+  element_hit left x s t W G z = record { is = λ v N. hit_by v left x (element_here left x s.end (element_at left x s t W G) G.ends G.before v N) z }
 
   on_by_law : (t : Tree) (left x y : ℕ) → ElementHere t left x → (left ≡ 0 → ⊥) → y ≡ word_of table x 8 → Walk (λ z f. nth (left - 1) z f ≡ element i n t) table n y
   unfolding nth
@@ -161,15 +170,16 @@ module _ (i : ℕ) (table : List ℕ) (n : ℕ) where
       subst (λ (k : ℕ). Walk (λ z f. nth k z f ≡ element i n t) table n y) q
       (walk_next (λ z f. nth (suc left) z f ≡ element i n t) (λ z f. nth left z f ≡ element i n t) table n x y H g H.so)
 
-  pub element_on : (left x end y : ℕ) → ElementWalk i table n left x → end ≡ word_of table n 8 → x < end → (left ≡ 0 → ⊥) → y ≡ word_of table x 8
-      → ElementWalk i table n (left - 1) y
-  element_on left x end y W e h z g = record { of = λ t N. on_by_law t left x y (element_here left x end W e h t N) z g }
+  pub element_on : (left x : ℕ) (s t : Children) → ElementWalk i table n left s.next → Gave table n x s t → (left ≡ 0 → ⊥) → ElementWalk i table n (left - 1) t.next
+  element_on left x s t W G z =
+      record { of = λ v N. on_by_law v left x t.next (element_here left x s.end (element_at left x s t W G) G.ends G.before v N) z G.on }
 
-  none_by : (t : Tree) (left x : ℕ) → nth left x nil ≡ element i n t → C.Nothing ≡ childAnswer (element i n t)
+  none_by : (t : Tree) (left x : ℕ) → nth left x nil ≡ element i n t → None ≡ childAnswer (element i n t)
   unfolding nth childAnswer
   none_by t zero x d = ap childAnswer d
   none_by t (suc left) x d = ap childAnswer d
 
-  pub element_end : (left x end : ℕ) → ElementWalk i table n left x → end ≡ word_of table n 8 → end ≤ x → ElementIs i table n C.Nothing
-  element_end left x end W e h =
-      record { is = λ t N. none_by t left x (walk_done (λ y f. nth left y f ≡ element i n t) table n x (W.of t N) (omega arith)) }
+  pub element_end : (left : ℕ) (s : Children) → ElementWalk i table n left s.next → WalksOver table n s → s.end ≤ s.next → ElementIs i table n None
+  element_end left s W O h =
+      let e = O.end_is in
+      record { is = λ t N. none_by t left s.next (walk_done (λ y f. nth left y f ≡ element i n t) table n s.next (W.of t N) (omega arith)) }

@@ -1,7 +1,7 @@
 -- A node's children in a table: the first is the node after it, the next one after a child is named by its word 8; and the walk over them,
 -- which a loop keeps.
 -- Assumes nothing.
-use mathlib.Core.Path.{◌≡◌, refl, ap, ◌∙◌, subst}
+use mathlib.Core.Path.{◌≡◌, refl, sym, ap, ◌∙◌, subst}
 use Prim.Native.Nat.{ℕ, zero, suc, ◌+◌, ◌*◌, ◌≤◌, ◌<◌}
 use native.Mathlib.Omega.{arith}
 use mathlib.Core.Option.{some}
@@ -13,7 +13,9 @@ use Rattle.reader.specs.Reading.{word_of}
 use Rattle.reader.proofs.TableLaws.{length_rows}
 use Rattle.reader.proofs.RowLaws.{size_pos}
 use Rattle.nodes.specs.Nodes.{children_of, Numbered, nth}
-use Rattle.nodes.specs.Stands.{WordsAt, Node}
+use Rattle.nodes.specs.Stands.{WordsAt, Node, Stands}
+use Rattle.nodes.specs.Children.{Left}
+use Rattle.nodes.specs.declared.children.Children.{Children}
 use Rattle.nodes.proofs.WordLaws.{some_is, none_is, words_left, words_right, heads, word_parent, word_next}
 
 -- the values f stand in the table side by side, the first as the node x: they are the last children of n
@@ -143,16 +145,76 @@ module _ (P : ℕ → Forest → Type 0) (table : List ℕ) (n : ℕ) where
   pub walk_done : (x : ℕ) → Walk P table n x → word_of table n 8 ≤ x → P x nil
   walk_done x W h = done_by x W.rest W.ahead W.so h
 
-  -- the next child comes after it
-  pub walk_less : (x end y : ℕ) → Walk P table n x → end ≡ word_of table n 8 → x < end → y ≡ word_of table x 8 → (x < y) × (y ≤ end)
-  walk_less x end y W e h q =
-      let H = walk_here x W (omega arith) in
-      let u = H.up in
-      let w = H.within in
-      (omega arith, omega arith)
-
 -- on to the next child, perhaps with other accumulators
 pub walk_next : (P Q : ℕ → Forest → Type 0) (table : List ℕ) (n x y : ℕ) (H : Here P table n x) → y ≡ word_of table x 8
     → Q (x + size H.value) H.later → Walk Q table n y
 walk_next P Q table n x y H e q =
     rw (e ∙ H.next) (record { rest = H.later; ahead = ahead_next table n x H.value H.later H.ahead; so = q })
+
+-- ---- the walk as the code's iterator makes it
+
+-- the children of the node n are left
+pub left_all : (table : List ℕ) (n end : ℕ) → Stands table n → end ≡ word_of table n 8 → Left table (n + 1) end
+left_all table n end S e =
+    let A = ahead_all table n S.value S.node in
+    let z = A.ends in
+    record { parent = n; rest = children_of S.value; words = A.words; room = A.room; ends = omega arith }
+
+-- a step over the first of those that are left
+pub record LeftOn (table : List ℕ) (x y end : ℕ) : Type 0 where
+  pub up : x < y
+  pub within : y ≤ end
+  pub left : Left table y end
+
+pub left_on : (table : List ℕ) (x y end : ℕ) → Left table x end → x < end → y ≡ word_of table x 8 → LeftOn table x y end
+unfolding rows size
+left_on table x y end L h e = by L.rest L.words L.room L.ends
+  where
+    by : (f : Forest) → WordsAt table (node_words * x) (rows_all L.parent x f) → node_words * (x + sizes f) ≤ length table → x + sizes f ≡ end → LeftOn table x y end
+    by nil w r z = absurd (omega arith)
+    by (cons t f) w r z =
+        let N : Node table x t = record { parent = L.parent; words = words_left table (node_words * x) (rows L.parent x t) (rows_all L.parent (x + size t) f) w; room = omega arith } in
+        let q = word_next table x t N in
+        let p = size_pos t in
+        let l = length_rows L.parent x t in
+        record {
+          up = omega arith;
+          within = omega arith;
+          left =
+              rw (e ∙ q) (record {
+                parent = L.parent;
+                rest = f;
+                words = words_right table (node_words * x) (node_words * (x + size t)) (rows L.parent x t) (rows_all L.parent (x + size t) f) (omega arith) w;
+                room = omega arith;
+                ends = omega arith;
+              });
+        }
+
+-- the iterator walks over the children of the node n
+pub record WalksOver (table : List ℕ) (n : ℕ) (s : Children) : Type 0 where
+  pub table_is : s.table.now ≡ table
+  pub end_is : s.end ≡ word_of table n 8
+
+-- what a loop on the iterator begins with, where P is so of the first child
+pub walks_start : (P : ℕ → Type 0) (table : List ℕ) (n : ℕ) (r s : Children) → s ≡ r → Left r.table.now r.next r.end → r.table.now ≡ table → r.next ≡ n + 1
+    → r.end ≡ word_of table n 8 → P (n + 1) → Left s.table.now s.next s.end × Unit {0} × WalksOver table n s × P s.next
+walks_start P table n r s e l t x z p = rw e (l, tt, record { table_is = t; end_is = z }, subst P (sym x) p)
+
+-- it gave the child x, and goes on
+pub record Gave (table : List ℕ) (n x : ℕ) (s t : Children) : Type 0 where
+  pub at : s.next ≡ x
+  pub before : x < s.end
+  pub ends : s.end ≡ word_of table n 8
+  pub on : t.next ≡ word_of table x 8
+  pub over : WalksOver table n t
+
+pub gave : (table : List ℕ) (n x : ℕ) (s t : Children) → WalksOver table n s
+    → (t.table.now ≡ s.table.now) × (t.end ≡ s.end) × ((x ≡ s.next) × (x < s.end) × (t.next ≡ word_of s.table.now x 8)) → Gave table n x s t
+gave table n x s t O h =
+    record {
+      at = sym h.2.0;
+      before = h.2.1;
+      ends = O.end_is;
+      on = h.2.2 ∙ ap (λ (l : List ℕ). word_of l x 8) O.table_is;
+      over = record { table_is = h.0 ∙ O.table_is; end_is = h.1 ∙ O.end_is };
+    }

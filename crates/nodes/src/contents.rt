@@ -33,6 +33,7 @@ pub(crate) fn span_content_is(
 ) -> bool
     ensures { result ≡ same_content (span_content sw start stop text.now) (some bytes.now) }
 {
+    // kept: joined by `&&` or `||` the tests are known behind them only by an `elim` for each, so that the code gets shorter and its proof longer.
     if stop < start {
         return false;
     }

@@ -1,5 +1,6 @@
 -- One step of a path, and the path: the ways out of the code.
 -- Assumes nothing.
+use Rattle.std.specs.Prelude.{Some, None, Ok, Err}
 use mathlib.Core.Path.{◌≡◌, refl, sym, ap, ◌∙◌, subst}
 use Prim.Native.Nat.{ℕ, zero, suc, ◌+◌, ◌-◌, ◌*◌, ◌≤◌, ◌<◌}
 use native.Mathlib.Numerals.{add-one}
@@ -15,28 +16,23 @@ use native.Mathlib.Decide.{dec_lt}
 use borrow.Author.Tests.{ltb-false}
 use Rattle.text.specs.declared.switches.Switches.{Switches}
 use Rattle.text.specs.Bytes.{front}
-use Rattle.text.specs.declared.refusal.Refusal.{Refusal}
-use Rattle.text.specs.Refusal.{refusal}
+use Rattle.text.specs.Refusal.{Refusal, refusal}
 use Rattle.lexer.proofs.ItemCases.{front_le}
 use Rattle.reader.specs.Tree.{Tree, leaf, branch, Forest, nil, cons, size, sizes, kind_number, node_words}
 use Rattle.reader.specs.declared.tree.Kind.TheVariants.{Object, Array, Tuple}
 use Rattle.reader.specs.Syntax.{Outcome, taken, refused}
 use Rattle.reader.specs.Reading.{word_of, table_of, answer_of}
-use Rattle.reader.specs.declared.read.Reading.TheVariants as R
 use Rattle.reader.proofs.RowLaws.{size_pos}
 use Rattle.nodes.specs.Nodes.{kind_of, children_of, Numbered, numbered, nth, has_key, member, element}
 use Rattle.nodes.specs.Answers.{childAnswer}
 use Rattle.nodes.specs.Stands.{Node, Stands, KindIs, MemberIs, ElementIs}
-use Rattle.nodes.specs.declared.children.Child.{Child}
-use Rattle.nodes.specs.declared.children.Child.TheVariants as C
+use Rattle.std.specs.declared.option.Option as Rust
 use Rattle.nodes.proofs.WordLaws.{scalar_high, word_next}
 use Rattle.nodes.proofs.NodeLaws.{Among, first_among, nth_among, child_stands, root_node}
 use Rattle.nodes.proofs.ChildLaws.{answer_at, answer_nothing}
 use Rattle.path.specs.Path.{pieces, steps, index, indexed, child, onward, follow, found}
 use Rattle.path.specs.Internal.{is_step_byte, below, index_answer, IndexedIs, ChildIs, FollowIs}
-use Rattle.path.specs.declared.steps.Index.TheVariants as I
-use Rattle.path.specs.declared.find.Found.{Found}
-use Rattle.path.specs.declared.find.Found.TheVariants as F
+use Rattle.std.specs.declared.result.Result.{Result}
 use Rattle.path.proofs.StepLaws.{last_step, first_step}
 
 -- ---- by index
@@ -60,36 +56,36 @@ node_size table n end t N e = e ∙ word_next table n t N
 pub node_room : (table : List ℕ) (n : ℕ) (t : Tree) → Node table n t → node_words * (n + size t) ≤ length table
 node_room table n t N = N.room
 
-index_is : (limit i : ℕ) (o : Option ℕ) → I.At i ≡ index_answer (below limit o) → o ≡ some i
+index_is : (limit i : ℕ) (o : Option ℕ) → Some i ≡ index_answer (below limit o) → o ≡ some i
 unfolding below index_answer
 index_is limit i none e = cc
 index_is limit i (some j) e = go (ltb j limit) e
   where
-    go : (b : Bool) → I.At i ≡ index_answer (cond b (some j) none) → some j ≡ some i
+    go : (b : Bool) → Some i ≡ index_answer (cond b (some j) none) → some j ≡ some i
     go true q = cc
     go false q = cc
 
-index_past : (limit : ℕ) (o : Option ℕ) (P : Option ℕ → Type 0) → I.Nothing ≡ index_answer (below limit o) → P none → ((j : ℕ) → limit ≤ j → P (some j)) → P o
+index_past : (limit : ℕ) (o : Option ℕ) (P : Option ℕ → Type 0) → None ≡ index_answer (below limit o) → P none → ((j : ℕ) → limit ≤ j → P (some j)) → P o
 unfolding below index_answer
 index_past limit none P e a b = a
 index_past limit (some j) P e a b = go (ltb j limit) refl e
   where
-    go : (t : Bool) → ltb j limit ≡ t → I.Nothing ≡ index_answer (cond t (some j) none) → P (some j)
+    go : (t : Bool) → ltb j limit ≡ t → None ≡ index_answer (cond t (some j) none) → P (some j)
     go true k q = let v : ◌≡◌ {A = ℕ} 0 1 = cc in absurd (omega arith)
     go false k q = b j (ltb-false j limit k)
 
 module _ (step table : List ℕ) (n end limit : ℕ) (w : end ≡ word_of table n 8) (l : limit ≡ end - n) where
-  pub indexed_at : (i : ℕ) (r : Child) → I.At i ≡ index_answer (below limit (index step)) → ElementIs i table n r → IndexedIs step table n r
+  pub indexed_at : (i : ℕ) (r : Rust.Option ℕ) → Some i ≡ index_answer (below limit (index step)) → ElementIs i table n r → IndexedIs step table n r
   unfolding indexed
   indexed_at i r e E = record { is = λ t N. E.is t N ∙ ap childAnswer (sym (ap (indexed n t) (index_is limit i (index step) e))) }
 
-  pub indexed_none : I.Nothing ≡ index_answer (below limit (index step)) → IndexedIs step table n C.Nothing
+  pub indexed_none : None ≡ index_answer (below limit (index step)) → IndexedIs step table n None
   unfolding indexed childAnswer
   indexed_none e =
       record {
         is =
             λ t N.
-            index_past limit (index step) (λ (o : Option ℕ). C.Nothing ≡ childAnswer (indexed n t o)) e refl
+            index_past limit (index step) (λ (o : Option ℕ). None ≡ childAnswer (indexed n t o)) e refl
             (λ j h. let z = node_size table n end t N w in sym (ap childAnswer (element_past j n t (omega arith))));
       }
 
@@ -118,13 +114,13 @@ module _ (sw : Switches) (text step : List ℕ) (n : ℕ) where
   of_other (branch h Tuple f) a b c = absurd (c refl)
 
   module _ (table : List ℕ) (k : ℕ) (K : KindIs table n k) where
-    pub child_object : (r : Child) → k ≡ 1 → MemberIs sw text step table n r → ChildIs sw text step table n r
+    pub child_object : (r : Rust.Option ℕ) → k ≡ 1 → MemberIs sw text step table n r → ChildIs sw text step table n r
     child_object r e M = record { is = λ t N. M.is t N ∙ ap childAnswer (of_object t (let q = K.is t N in omega arith)) }
 
-    pub child_array : (r : Child) → 2 ≤ k → k ≤ 3 → IndexedIs step table n r → ChildIs sw text step table n r
+    pub child_array : (r : Rust.Option ℕ) → 2 ≤ k → k ≤ 3 → IndexedIs step table n r → ChildIs sw text step table n r
     child_array r e g M = record { is = λ t N. M.is t N ∙ ap childAnswer (of_array t (let q = K.is t N in omega arith) (let q = K.is t N in omega arith)) }
 
-    pub child_other : (k ≡ 1 → ⊥) → (k ≡ 2 → ⊥) → (k ≡ 3 → ⊥) → ChildIs sw text step table n C.Nothing
+    pub child_other : (k ≡ 1 → ⊥) → (k ≡ 2 → ⊥) → (k ≡ 3 → ⊥) → ChildIs sw text step table n None
     unfolding childAnswer
     child_other a b c =
         record { is = λ t N. let q = K.is t N in ap childAnswer (of_other t (λ e. a (q ∙ e)) (λ e. b (q ∙ e)) (λ e. c (q ∙ e))) }
@@ -149,8 +145,8 @@ pub record Gone (sw : Switches) (text step table : List ℕ) (n : ℕ) (t : Tree
   pub is : child sw text n t step ≡ some (numbered m value)
   pub node : Node table m value
 
-module _ (sw : Switches) (text step table : List ℕ) (n : ℕ) (r : Child) (K : ChildIs sw text step table n r) where
-  pub gone : (m : ℕ) → r ≡ C.At m → (t : Tree) → Node table n t → Gone sw text step table n t m
+module _ (sw : Switches) (text step table : List ℕ) (n : ℕ) (r : Rust.Option ℕ) (K : ChildIs sw text step table n r) where
+  pub gone : (m : ℕ) → r ≡ Some m → (t : Tree) → Node table n t → Gone sw text step table n t m
   gone m e t N =
       let g = answer_at (child sw text n t step) m (sym (K.is t N) ∙ e) in
       record {
@@ -160,10 +156,10 @@ module _ (sw : Switches) (text step table : List ℕ) (n : ℕ) (r : Child) (K :
       }
 
   -- where a step has led to, a value stands
-  pub gone_stands : (m : ℕ) → r ≡ C.At m → Stands table n → Stands table m
+  pub gone_stands : (m : ℕ) → r ≡ Some m → Stands table n → Stands table m
   gone_stands m e S = let G = gone m e S.value S.node in record { value = G.value; node = G.node }
 
-  pub no_child : r ≡ C.Nothing → (t : Tree) → Node table n t → child sw text n t step ≡ none
+  pub no_child : r ≡ None → (t : Tree) → Node table n t → child sw text n t step ≡ none
   no_child e t N = answer_nothing (child sw text n t step) (sym (K.is t N) ∙ e)
 
 -- ---- the path
@@ -176,14 +172,14 @@ module _ (path : List ℕ) (e : ℕ) (q : e ≡ front is_step_byte path) (h : e 
   pub fewer_steps : length (pieces (take (length path - (e + 1)) (drop (e + 1) path))) < length (pieces path)
   fewer_steps = let l = ap (λ (x : List (List ℕ)). length x) split_path in omega arith
 
-module _ (sw : Switches) (text table path : List ℕ) (n k e : ℕ) (r : Child) (q : e ≡ front is_step_byte path) (K : ChildIs sw text (take e path) table n r) where
+module _ (sw : Switches) (text table path : List ℕ) (n k e : ℕ) (r : Rust.Option ℕ) (q : e ≡ front is_step_byte path) (K : ChildIs sw text (take e path) table n r) where
   whole_path : e ≡ length path → pieces path ≡ take e path ∷ []
   whole_path z =
       let w : front is_step_byte path ≡ length path = sym q ∙ z in
       let l : length path ≤ e = omega arith in
       last_step path w ∙ ap (λ (x : List ℕ). x ∷ []) (sym (take_all e path l))
 
-  pub follow_last : (m : ℕ) → r ≡ C.At m → e ≡ length path → FollowIs sw text path table n k (F.At m)
+  pub follow_last : (m : ℕ) → r ≡ Some m → e ≡ length path → FollowIs sw text path table n k (Ok m)
   unfolding follow onward
   follow_last m g z =
       record {
@@ -191,10 +187,10 @@ module _ (sw : Switches) (text table path : List ℕ) (n k e : ℕ) (r : Child) 
             λ t N.
             let G = gone sw text (take e path) table n r K m g t N in
             sym (ap (λ (ss : List (List ℕ)). follow sw text k n t ss) (whole_path z)
-            ∙ ap (λ (o : Option Numbered). onward k o (λ (c : Numbered). F.At c.number)) G.is);
+            ∙ ap (λ (o : Option Numbered). onward k o (λ (c : Numbered). Ok c.number)) G.is);
       }
 
-  pub follow_next : (m : ℕ) (a : Found) → r ≡ C.At m → e < length path
+  pub follow_next : (m : ℕ) (a : Result ℕ Refusal) → r ≡ Some m → e < length path
       → FollowIs sw text (take (length path - (e + 1)) (drop (e + 1) path)) table m (k + 1) a → FollowIs sw text path table n k a
   unfolding follow onward
   follow_next m a g h A =
@@ -209,11 +205,11 @@ module _ (sw : Switches) (text table path : List ℕ) (n k e : ℕ) (r : Child) 
             ∙ ap (λ (o : Option Numbered). onward k o (λ (c : Numbered). follow sw text (suc k) c.number c.value rest)) G.is);
       }
 
-  pub follow_missing : r ≡ C.Nothing → FollowIs sw text path table n k (F.Refused (refusal 23 k))
+  pub follow_missing : r ≡ None → FollowIs sw text path table n k (Err (refusal 23 k))
   unfolding follow onward
   follow_missing g = record { is = λ t N. sym (missing_by t (no_child sw text (take e path) table n r K g t N)) }
     where
-      missing_by : (t : Tree) → child sw text n t (take e path) ≡ none → follow sw text k n t (pieces path) ≡ F.Refused (refusal 23 k)
+      missing_by : (t : Tree) → child sw text n t (take e path) ≡ none → follow sw text k n t (pieces path) ≡ Err (refusal 23 k)
       missing_by t d =
           elim (dec_lt e (length path)) [
             | yes h ↦
@@ -224,19 +220,19 @@ module _ (sw : Switches) (text table path : List ℕ) (n k e : ℕ) (r : Child) 
                 let w = front_le is_step_byte path in
                 let z : e ≡ length path = omega arith in
                 ap (λ (ss : List (List ℕ)). follow sw text k n t ss) (whole_path z)
-                ∙ ap (λ (o : Option Numbered). onward k o (λ (c : Numbered). F.At c.number)) d
+                ∙ ap (λ (o : Option Numbered). onward k o (λ (c : Numbered). Ok c.number)) d
           ]
 
 -- ---- the call
 
 -- the root of a text that was taken stands in the table
-pub root_stands : (words : ℕ) (o : Outcome) (table : List ℕ) (n : ℕ) → table ≡ table_of words o → answer_of o ≡ R.Taken n → Stands table 0
+pub root_stands : (words : ℕ) (o : Outcome) (table : List ℕ) (n : ℕ) → table ≡ table_of words o → answer_of o ≡ Ok n → Stands table 0
 unfolding answer_of
 root_stands words (taken tree) table n w e = record { value = tree; node = subst (λ (t : List ℕ). Node t 0 tree) (sym w) (root_node words tree) }
 root_stands words (refused number place) table n w e = let v : ◌≡◌ {A = ℕ} 0 1 = cc in absurd (omega arith)
 
 module _ (sw : Switches) (text path : List ℕ) where
-  pub found_root : (o : Outcome) (n : ℕ) → answer_of o ≡ R.Taken n → length path ≡ 0 → F.At 0 ≡ found sw text path o
+  pub found_root : (o : Outcome) (n : ℕ) → answer_of o ≡ Ok n → length path ≡ 0 → Ok 0 ≡ found sw text path o
   unfolding answer_of found steps follow
   found_root (taken tree) n e z = sym (ap (λ (ss : List (List ℕ)). follow sw text 0 0 tree ss) (no_steps path z))
     where
@@ -245,7 +241,7 @@ module _ (sw : Switches) (text path : List ℕ) where
       no_steps (b ∷ s) l = absurd (omega arith)
   found_root (refused number place) n e z = cc
 
-  pub found_on : (words : ℕ) (o : Outcome) (table : List ℕ) (n : ℕ) (a : Found) → table ≡ table_of words o → answer_of o ≡ R.Taken n → (length path ≡ 0 → ⊥)
+  pub found_on : (words : ℕ) (o : Outcome) (table : List ℕ) (n : ℕ) (a : Result ℕ Refusal) → table ≡ table_of words o → answer_of o ≡ Ok n → (length path ≡ 0 → ⊥)
       → FollowIs sw text path table 0 0 a → a ≡ found sw text path o
   unfolding answer_of found steps pieces
   found_on words (taken tree) table n a w e z A =
@@ -257,7 +253,7 @@ module _ (sw : Switches) (text path : List ℕ) where
       all_steps (b ∷ s) l = refl
   found_on words (refused number place) table n a w e z A = cc
 
-  pub found_refused : (o : Outcome) (f : Refusal) → answer_of o ≡ R.Refused f → F.Refused f ≡ found sw text path o
+  pub found_refused : (o : Outcome) (f : Refusal) → answer_of o ≡ Err f → Err f ≡ found sw text path o
   unfolding answer_of found
   found_refused (taken tree) f e = cc
   found_refused (refused number place) f e = cc

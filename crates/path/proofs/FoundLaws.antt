@@ -1,5 +1,6 @@
 -- Where a path leads: to a node of the text, or to a step whose number is below the count of nodes.
 -- Assumes nothing.
+use Rattle.std.specs.Prelude.{Ok, Err}
 use mathlib.Core.Path.{◌≡◌, refl, sym, subst}
 use Prim.Native.Nat.{ℕ, suc, ◌+◌, ◌≤◌, ◌<◌}
 use native.Mathlib.Omega.{arith}
@@ -7,7 +8,7 @@ use mathlib.Core.Option.{Option, none, some}
 use mathlib.Core.List.{List, [], ◌∷◌}
 use lib.ListN.{length}
 use Rattle.text.specs.declared.switches.Switches.{Switches}
-use Rattle.text.specs.declared.refusal.Refusal.{Refusal}
+use Rattle.text.specs.Refusal.{Refusal}
 use Rattle.reader.specs.Tree.{Tree, size}
 use Rattle.reader.specs.Syntax.{Outcome, taken, refused}
 use Rattle.reader.specs.Reading.{reading, node_count, max_text, max_nodes}
@@ -17,19 +18,18 @@ use Rattle.reader.proofs.RowLaws.{size_pos}
 use Rattle.nodes.specs.Nodes.{node_at, Numbered}
 use Rattle.nodes.proofs.NodeLaws.{node_fits, child_node, node_root}
 use Rattle.path.specs.Path.{steps, child, onward, follow, found}
-use Rattle.path.specs.declared.find.Found.{Found}
-use Rattle.path.specs.declared.find.Found.TheVariants as F
+use Rattle.std.specs.declared.result.Result.{Result}
 use Rattle.path.proofs.FollowLaws.{child_among}
 
 -- in a tree with so many nodes: to a node's number, or to 23 and the number of a step, with `left` steps from the step k on
-unfoldable pub Leads : (nodes k left : ℕ) → Found → Type 0
-Leads nodes k left (F.At n) = n < nodes
-Leads nodes k left (F.Refused f) = (f.number ≡ 23) × (f.place < nodes) × (f.place < k + left)
+unfoldable pub Leads : (nodes k left : ℕ) → Result ℕ Refusal → Type 0
+Leads nodes k left (Ok n) = n < nodes
+Leads nodes k left (Err f) = (f.number ≡ 23) × (f.place < nodes) × (f.place < k + left)
 
-more_left : (nodes k left : ℕ) (a : Found) → Leads nodes (suc k) left a → Leads nodes k (suc left) a
+more_left : (nodes k left : ℕ) (a : Result ℕ Refusal) → Leads nodes (suc k) left a → Leads nodes k (suc left) a
 unfolding Leads
-more_left nodes k left (F.At n) h = h
-more_left nodes k left (F.Refused f) h = (h.0, h.1, let l = h.2 in omega arith)
+more_left nodes k left (Ok n) h = h
+more_left nodes k left (Err f) h = (h.0, h.1, let l = h.2 in omega arith)
 
 module _ (sw : Switches) (text : List ℕ) (tree : Tree) where
   -- a child has a greater number than its parent, so at the step k the number is at least k
@@ -50,14 +50,14 @@ module _ (sw : Switches) (text : List ℕ) (tree : Tree) where
 -- ---- the call
 
 -- of a text with so many nodes: a node's number, or a place that can be packed with a refusal's number
-Fits : (nodes : ℕ) → Found → Type 0
-Fits nodes (F.At n) = n < nodes
-Fits nodes (F.Refused f) = f.place ≤ max_text
+Fits : (nodes : ℕ) → Result ℕ Refusal → Type 0
+Fits nodes (Ok n) = n < nodes
+Fits nodes (Err f) = f.place ≤ max_text
 
-leads_fits : (nodes left : ℕ) (a : Found) → nodes ≤ max_nodes → Leads nodes 0 left a → Fits nodes a
+leads_fits : (nodes left : ℕ) (a : Result ℕ Refusal) → nodes ≤ max_nodes → Leads nodes 0 left a → Fits nodes a
 unfolding Leads Fits
-leads_fits nodes left (F.At n) l h = h
-leads_fits nodes left (F.Refused f) l h = let b = h.1 in omega arith
+leads_fits nodes left (Ok n) l h = h
+leads_fits nodes left (Err f) l h = let b = h.1 in omega arith
 
 found_by : (sw : Switches) (text path : List ℕ) (o : Outcome) → node_count o ≤ max_nodes → PlaceWithin max_text o → Fits (node_count o) (found sw text path o)
 unfolding found node_count PlaceWithin Fits
@@ -72,11 +72,11 @@ module _ (sw : Switches) (words : ℕ) (text path : List ℕ) where
       found_by sw text path (reading sw words text) (omega arith) (place_law sw words text)
 
   -- what is found is a node of the text
-  pub found_node : (n : ℕ) → F.At n ≡ found sw text path (reading sw words text) → n < node_count (reading sw words text)
+  pub found_node : (n : ℕ) → Ok n ≡ found sw text path (reading sw words text) → n < node_count (reading sw words text)
   unfolding Fits
   found_node n e = subst (Fits (node_count (reading sw words text))) (sym e) found_fits
 
   -- a refusal's place can be packed: a step's number is below the count of nodes
-  pub found_place : (f : Refusal) → F.Refused f ≡ found sw text path (reading sw words text) → f.place ≤ max_text
+  pub found_place : (f : Refusal) → Err f ≡ found sw text path (reading sw words text) → f.place ≤ max_text
   unfolding Fits
   found_place f e = subst (Fits (node_count (reading sw words text))) (sym e) found_fits

@@ -1,17 +1,16 @@
 -- Ask by path (Req 09): "A path is bytes, steps separated by `.`; the empty path is the root."
 -- Assumes nothing.
-use Rattle.std.specs.Prelude.{ℕ, suc, ◌+◌, ◌-◌, ◌*◌, cond, List, [], ◌∷◌}
+use Rattle.std.specs.Prelude.{ℕ, suc, ◌+◌, ◌-◌, ◌*◌, cond, List, [], ◌∷◌, Ok, Err}
 use Prim.Native.Char.{code}
 use Rattle.std.proofs.Math.Option.{Option, none, some}
 use Rattle.text.specs.declared.switches.Switches.{Switches}
 use Rattle.text.specs.Bytes.{is, is_digit}
-use Rattle.text.specs.Refusal.{refusal}
+use Rattle.text.specs.Refusal.{refusal, Refusal}
 use Rattle.reader.specs.declared.tree.Kind.TheVariants.{Object, Array, Tuple}
 use Rattle.reader.specs.Tree.{Tree, leaf, branch}
 use Rattle.reader.specs.Syntax.{Outcome, taken, refused}
 use Rattle.nodes.specs.Nodes.{Numbered, member, element}
-use Rattle.path.specs.declared.find.Found.{Found}
-use Rattle.path.specs.declared.find.Found.TheVariants as F
+use Rattle.std.specs.declared.result.Result.{Result}
 
 -- ---- steps
 
@@ -65,20 +64,20 @@ child sw text n (branch head Tuple children) step = indexed n (branch head Tuple
 -- ---- the path
 
 -- on from the child, if there is one: "or 23 and the number of the first step, from 0, that has no child to go to"; k is the step's number
-unfoldable pub onward : (k : ℕ) → Option Numbered → (Numbered → Found) → Found
-onward k none go = F.Refused (refusal 23 k)
+unfoldable pub onward : (k : ℕ) → Option Numbered → (Numbered → Result ℕ Refusal) → Result ℕ Refusal
+onward k none go = Err (refusal 23 k)
 onward k (some c) go = go c
 
 -- "Following a path takes one step off it each time": from the value with the number n, by the steps that are left, the first of which has
 -- the number k. With none left, "the node's number"
-unfoldable pub follow : Switches → (text : List ℕ) (k n : ℕ) → Tree → List (List ℕ) → Found
-follow sw text k n t [] = F.At n
+unfoldable pub follow : Switches → (text : List ℕ) (k n : ℕ) → Tree → List (List ℕ) → Result ℕ Refusal
+follow sw text k n t [] = Ok n
 follow sw text k n t (s ∷ ss) = onward k (child sw text n t s) (λ c. follow sw text (suc k) c.number c.value ss)
 
 -- ---- the call
 
 -- "The call reads the text into the lent table itself, then answers": by what reading the text comes to. The answer is the code's own enum,
 -- src/find.rt: a node's number, or the number of a refusal with its place
-unfoldable pub found : Switches → (text path : List ℕ) → Outcome → Found
+unfoldable pub found : Switches → (text path : List ℕ) → Outcome → Result ℕ Refusal
 found sw text path (taken tree) = follow sw text 0 0 tree (steps path)
-found sw text path (refused number place) = F.Refused (refusal number place)
+found sw text path (refused number place) = Err (refusal number place)

@@ -1,68 +1,47 @@
 // The steps of a path.
-ghost use Rattle.std.specs.Prelude.{◌≡◌, ◌≤◌};
+ghost use Rattle.std.specs.Prelude.{◌≡◌, ◌≤◌, ◌<◌};
 ghost use Rattle.text.specs.Bytes.{front};
-ghost use Rattle.path.specs.Path.{index};
+ghost use Rattle.path.specs.Path.{digits, index};
 ghost use Rattle.path.specs.Internal.{is_step_byte, below, index_answer};
 
-// The index that a step says; or that it says none, or one that no child has.
-#[derive(Clone, Copy)]
-pub(crate) enum Index {
-    At(usize),
-    Nothing,
-}
+use text::runs::front;
 
 // Where the first step ends: at the first `.`, or at the path's end.
 pub(crate) fn step_end(path: &[u8]) -> usize
     ensures { result ≡ front is_step_byte path.now }
 {
-    let mut i = 0;
-    while i < path.len() {
-        if path[i] == b'.' {
-            return i;
-        }
-        i += 1;
-    }
-    i
+    front(path, |b| b != b'.')
 }
 
-fn wide(b: u8) -> usize
-    ensures { result ≡ b }
+// The number that digits make, the first of which is not 0, if it is below the limit.
+fn digits_below(step: &[u8], limit: usize) -> Option<usize>
+    requires limit_bound { (0 < limit) × (limit ≤ 1152921504606846976) }
+    ensures { result ≡ index_answer (below limit (digits 0 step.now)) }
 {
-    b as usize
+    let mut v = 0;
+    for &b in step {
+        if !b.is_ascii_digit() {
+            return None;
+        }
+        v = v * 10 + usize::from(b - b'0');
+        if limit <= v {
+            return None;
+        }
+    }
+    Some(v)
 }
 
 // The index that a step says, if it is below the limit.
-pub(crate) fn index_of(step: &[u8], limit: usize) -> Index
+pub(crate) fn index_of(step: &[u8], limit: usize) -> Option<usize>
     requires { limit ≤ 1152921504606846976 }
     ensures { result ≡ index_answer (below limit (index step.now)) }
 {
-    if step.len() == 0 {
-        return Index::Nothing;
-    }
     if limit == 0 {
-        return Index::Nothing;
+        return None;
     }
-    if step[0] == b'0' {
-        if step.len() == 1 {
-            return Index::At(0);
-        }
-        return Index::Nothing;
+    match step {
+        [] => None,
+        [b'0', ..] => { if step.len() == 1 { Some(0) } else { None } }
+        _ => digits_below(step, limit),
     }
-    let mut v = 0;
-    let mut i = 0;
-    while i < step.len() {
-        let b = step[i];
-        if b < b'0' {
-            return Index::Nothing;
-        }
-        if b'9' < b {
-            return Index::Nothing;
-        }
-        v = v * 10 + wide(b - b'0');
-        if limit <= v {
-            return Index::Nothing;
-        }
-        i += 1;
-    }
-    Index::At(v)
 }

@@ -1,5 +1,6 @@
 -- What a token begins, by its kind: each law is what one way out of a function of src/begin.rt has to show.
 -- Assumes nothing.
+use Rattle.std.specs.Prelude.{Some, None}
 use mathlib.Core.Path.{◌≡◌, refl, sym, ap, ◌∙◌, subst}
 use Prim.Native.Nat.{ℕ, suc, ◌+◌, ◌-◌, ◌/◌, ◌%◌, ◌≤◌, ◌<◌}
 use native.Mathlib.Nat.{add-zero}
@@ -20,6 +21,7 @@ use Rattle.lexer.specs.Token.{Form}
 use Rattle.lexer.specs.Answer.{kind_of}
 use Rattle.reader.specs.declared.tree.Words.{Words}
 use Rattle.reader.specs.declared.tree.Begin.{Begin}
+use Rattle.std.specs.declared.option.Option as Rust
 use Rattle.reader.specs.declared.tree.Begin.TheVariants as B
 use Rattle.reader.specs.declared.tree.Kind.TheVariants.{Object, Array, Tuple}
 use Rattle.reader.specs.Tree as T
@@ -64,11 +66,11 @@ module _ (minus : Bool) (m : ℕ) (p : ℤ) (q : ℕ) (q-is : q ≡ plus1000 p) 
 
 -- ---- what something begins, as the code has it
 
-unfoldable pub begin_by : Begins → Begin
-begin_by (container kind) = B.Container kind
-begin_by (scalar value) = B.Scalar (leaf_of value)
-begin_by identifier = B.Identifier
-begin_by nothing = B.Nothing
+unfoldable pub begin_by : Begins → Rust.Option Begin
+begin_by (container kind) = Some (B.Container kind)
+begin_by (scalar value) = Some (B.Scalar (leaf_of value))
+begin_by identifier = (Some B.Identifier)
+begin_by nothing = None
 
 by_cond : (t : Bool) (x y : Begins) → begin_by (cond t x y) ≡ cond t (begin_by x) (begin_by y)
 by_cond true x y = refl
@@ -79,20 +81,20 @@ unfolding mark_begin mark_begins begin_by
 mark_tied b =
     sym
     (by_cond (is "{" b) (container Object) (cond (is "[" b) (container Array) (cond (is "(" b) (container Tuple) nothing))
-    ∙ ap (cond (is "{" b) (B.Container Object))
+    ∙ ap (cond (is "{" b) (Some (B.Container Object)))
     (by_cond (is "[" b) (container Array) (cond (is "(" b) (container Tuple) nothing)
-    ∙ ap (cond (is "[" b) (B.Container Array)) (by_cond (is "(" b) (container Tuple) nothing)))
+    ∙ ap (cond (is "[" b) (Some (B.Container Array))) (by_cond (is "(" b) (container Tuple) nothing)))
 
 pub word_tied : (s : List ℕ) → word_begin s ≡ begin_by (word_begins s)
 unfolding word_begin word_begins begin_by
 word_tied s =
     sym
     (by_cond (same_bytes s (ascii "true")) (scalar T.true_value) _
-    ∙ ap (cond (same_bytes s (ascii "true")) (B.Scalar (leaf_of T.true_value)))
+    ∙ ap (cond (same_bytes s (ascii "true")) (Some (B.Scalar (leaf_of T.true_value))))
     (by_cond (same_bytes s (ascii "false")) (scalar T.false_value) _
-    ∙ ap (cond (same_bytes s (ascii "false")) (B.Scalar (leaf_of T.false_value)))
+    ∙ ap (cond (same_bytes s (ascii "false")) (Some (B.Scalar (leaf_of T.false_value))))
     (by_cond (same_bytes s (ascii "null")) (scalar T.null_value) _
-    ∙ ap (cond (same_bytes s (ascii "null")) (B.Scalar (leaf_of T.null_value))) (by_cond (opens_with_capital s) identifier nothing))))
+    ∙ ap (cond (same_bytes s (ascii "null")) (Some (B.Scalar (leaf_of T.null_value)))) (by_cond (opens_with_capital s) identifier nothing))))
 
 -- ---- a form by its kind
 
@@ -115,21 +117,21 @@ module _ (span : Span) where
   word_form b s more (L.integer z) k e = cc
   word_form b s more (L.decimal minus m p) k e = cc
 
-  text_form : (f : Form) (n : ℕ) → kind_of f ≡ K.Text n → B.Scalar (record { kind = 4; low = span.start; high = span.stop; extra = n }) ≡ begin_by (begins span f)
+  text_form : (f : Form) (n : ℕ) → kind_of f ≡ K.Text n → Some (B.Scalar (record { kind = 4; low = span.start; high = span.stop; extra = n })) ≡ begin_by (begins span f)
   unfolding kind_of begins begin_by leaf_of scalar_number scalar_words
   text_form (L.mark x) n e = cc
   text_form (L.word w) n e = cc
-  text_form (L.text c) n e = let h : n ≡ length c = cc in ap (λ (k : ℕ). B.Scalar (record { kind = 4; low = span.start; high = span.stop; extra = k })) h
+  text_form (L.text c) n e = let h : n ≡ length c = cc in ap (λ (k : ℕ). Some (B.Scalar (record { kind = 4; low = span.start; high = span.stop; extra = k }))) h
   text_form (L.bytes c) n e = cc
   text_form (L.integer z) n e = cc
   text_form (L.decimal minus m p) n e = cc
 
-  bytes_form : (f : Form) (n : ℕ) → kind_of f ≡ K.Bytes n → B.Scalar (record { kind = 5; low = span.start; high = span.stop; extra = n }) ≡ begin_by (begins span f)
+  bytes_form : (f : Form) (n : ℕ) → kind_of f ≡ K.Bytes n → Some (B.Scalar (record { kind = 5; low = span.start; high = span.stop; extra = n })) ≡ begin_by (begins span f)
   unfolding kind_of begins begin_by leaf_of scalar_number scalar_words
   bytes_form (L.mark x) n e = cc
   bytes_form (L.word w) n e = cc
   bytes_form (L.text c) n e = cc
-  bytes_form (L.bytes c) n e = let h : n ≡ length c = cc in ap (λ (k : ℕ). B.Scalar (record { kind = 5; low = span.start; high = span.stop; extra = k })) h
+  bytes_form (L.bytes c) n e = let h : n ≡ length c = cc in ap (λ (k : ℕ). Some (B.Scalar (record { kind = 5; low = span.start; high = span.stop; extra = k }))) h
   bytes_form (L.integer z) n e = cc
   bytes_form (L.decimal minus m p) n e = cc
 
@@ -192,7 +194,7 @@ module _ (sw : Switches) (s : List ℕ) (start stop : ℕ) where
   begun_as identifier e = e
   begun_as nothing e = e
 
-  begun : (r : Begin) → r ≡ begin_by (begins (span_of (token_at sw s start stop)) (form_at sw s start)) → Begun sw s start stop r
+  begun : (r : Rust.Option Begin) → r ≡ begin_by (begins (span_of (token_at sw s start stop)) (form_at sw s start)) → Begun sw s start stop r
   begun r e = record { is = subst (BeginIs sw s start stop) (sym e) (begun_as (begins (span_of (token_at sw s start stop)) (form_at sw s start)) refl) }
 
   module _ (k : TokenKind) (t : TokenAt sw s k start stop) where
@@ -207,37 +209,37 @@ module _ (sw : Switches) (s : List ℕ) (start stop : ℕ) where
         let m : stop - start ≡ suc (stop - suc start) = omega arith in
         rw (m, drop-cons s start 0 h)
 
-    pub mark_begun : (b : ℕ) (r : Begin) → k ≡ K.Mark b → r ≡ mark_begin b → Begun sw s start stop r
+    pub mark_begun : (b : ℕ) (r : Rust.Option Begin) → k ≡ K.Mark b → r ≡ mark_begin b → Begun sw s start stop r
     mark_begun b r e q =
         begun r (q ∙ mark_tied b ∙ ap begin_by (sym (mark_form (span_of (token_at sw s start stop)) (form_at sw s start) b (t.kind ∙ e))))
 
-    pub word_begun : (r : Begin) → k ≡ K.Word → r ≡ word_begin (take (stop - start) (drop start s)) → Begun sw s start stop r
+    pub word_begun : (r : Rust.Option Begin) → k ≡ K.Word → r ≡ word_begin (take (stop - start) (drop start s)) → Begun sw s start stop r
     word_begun r e q =
         begun r
         (q ∙ ap word_begin bytes_of ∙ word_tied (get_or s start 0 ∷ take (stop - suc start) (drop (suc start) s))
         ∙ ap begin_by
         (sym (word_form (span_of (token_at sw s start stop)) (get_or s start 0) (drop (suc start) s) (stop - suc start) (form_at sw s start) kept (t.kind ∙ e))))
 
-    pub text_begun : (n : ℕ) → k ≡ K.Text n → Begun sw s start stop (B.Scalar (record { kind = 4; low = start; high = stop; extra = n }))
+    pub text_begun : (n : ℕ) → k ≡ K.Text n → Begun sw s start stop (Some (B.Scalar (record { kind = 4; low = start; high = stop; extra = n })))
     unfolding span_of
     text_begun n e =
-        begun (B.Scalar (record { kind = 4; low = start; high = stop; extra = n })) (text_form (span_of (token_at sw s start stop)) (form_at sw s start) n (t.kind ∙ e))
+        begun (Some (B.Scalar (record { kind = 4; low = start; high = stop; extra = n }))) (text_form (span_of (token_at sw s start stop)) (form_at sw s start) n (t.kind ∙ e))
 
-    pub bytes_begun : (n : ℕ) → k ≡ K.Bytes n → Begun sw s start stop (B.Scalar (record { kind = 5; low = start; high = stop; extra = n }))
+    pub bytes_begun : (n : ℕ) → k ≡ K.Bytes n → Begun sw s start stop (Some (B.Scalar (record { kind = 5; low = start; high = stop; extra = n })))
     unfolding span_of
     bytes_begun n e =
-        begun (B.Scalar (record { kind = 5; low = start; high = stop; extra = n })) (bytes_form (span_of (token_at sw s start stop)) (form_at sw s start) n (t.kind ∙ e))
+        begun (Some (B.Scalar (record { kind = 5; low = start; high = stop; extra = n }))) (bytes_form (span_of (token_at sw s start stop)) (form_at sw s start) n (t.kind ∙ e))
 
-    pub integer_begun : (z : ℤ) (l : Words) → k ≡ K.Integer z → l ≡ leaf_of (T.integer z) → Begun sw s start stop (B.Scalar l)
+    pub integer_begun : (z : ℤ) (l : Words) → k ≡ K.Integer z → l ≡ leaf_of (T.integer z) → Begun sw s start stop (Some (B.Scalar l))
     unfolding begin_by
     integer_begun z l e q =
-        begun (B.Scalar l) (ap B.Scalar q ∙ ap begin_by (sym (integer_form (span_of (token_at sw s start stop)) (form_at sw s start) z (t.kind ∙ e))))
+        begun (Some (B.Scalar l)) (ap (λ (w : Words). Some (B.Scalar w)) q ∙ ap begin_by (sym (integer_form (span_of (token_at sw s start stop)) (form_at sw s start) z (t.kind ∙ e))))
 
     pub decimal_begun : (minus : Bool) (m : ℕ) (p : ℤ) (l : Words) → k ≡ K.Decimal minus m p → l ≡ leaf_of (T.decimal minus m p)
-        → Begun sw s start stop (B.Scalar l)
+        → Begun sw s start stop (Some (B.Scalar l))
     unfolding begin_by
     decimal_begun minus m p l e q =
-        begun (B.Scalar l) (ap B.Scalar q ∙ ap begin_by (sym (decimal_form (span_of (token_at sw s start stop)) (form_at sw s start) minus m p (t.kind ∙ e))))
+        begun (Some (B.Scalar l)) (ap (λ (w : Words). Some (B.Scalar w)) q ∙ ap begin_by (sym (decimal_form (span_of (token_at sw s start stop)) (form_at sw s start) minus m p (t.kind ∙ e))))
 
     pub text_fits_law : (n : ℕ) → k ≡ K.Text n → n ≤ length s
     text_fits_law n e =

@@ -1,5 +1,7 @@
 -- A container while it is read: what its loop keeps, and each way on and out.
 -- Assumes nothing.
+use Rattle.text.specs.declared.refusal.Refusal as Code
+use Rattle.std.specs.Prelude.{Some, None, Ok, Err}
 use mathlib.Core.Path.{◌≡◌, refl, ap, sym, subst, ◌∙◌}
 use mathlib.Core.List.{List, [], ◌∷◌, ◌++◌}
 use mathlib.Core.Option.{Option, none}
@@ -15,8 +17,7 @@ use Rattle.text.specs.declared.switches.Switches.{Switches}
 use Rattle.lexer.specs.declared.item.TokenKind.{TokenKind}
 use Rattle.reader.specs.declared.tree.Kind.{Kind}
 use Rattle.reader.specs.declared.tree.Limits.{Limits}
-use Rattle.text.specs.declared.refusal.Refusal.{Refusal}
-use Rattle.text.specs.Refusal.{refusal}
+use Rattle.text.specs.Refusal.{Refusal, refusal, number_of}
 use Rattle.reader.specs.declared.tree.Rules.{Rules}
 use Rattle.reader.specs.declared.tree.Children.{Children}
 use Rattle.reader.specs.declared.tree.Due.{Due}
@@ -25,10 +26,9 @@ use Rattle.text.specs.declared.span.Span as CS
 use Rattle.lexer.specs.declared.item.Token as CT
 use Rattle.reader.specs.declared.items.Item.{Item}
 use Rattle.reader.specs.declared.items.Item.TheVariants as I
-use Rattle.reader.specs.declared.duplicates.Duplicate.{Duplicate}
-use Rattle.reader.specs.declared.duplicates.Duplicate.TheVariants as D
+use Rattle.std.specs.declared.option.Option as Rust
 use Rattle.reader.specs.declared.values.Progress.{Progress}
-use Rattle.reader.specs.declared.values.Progress.TheVariants as A
+use Rattle.std.specs.declared.result.Result.{Result}
 use Rattle.reader.specs.Tree.{branch, Forest, nil, snoc, count, size, sizes, head_of, rows, rows_all, node_words}
 use Rattle.reader.specs.Reading.{max_nodes}
 use Rattle.reader.specs.Syntax.{Label, label, Frame, frame, Slot, after, Mode, value, Config, config, refuse_if, Begins, container, is_object, head_by, ended, finished, no_node, counted, value_step, Outcome, refused, after_step}
@@ -58,12 +58,12 @@ Within sw limits s kind l ω o d n tin ts ks i m z tab = Body sw limits s kind l
 
 -- ---- answers by their cases
 
-module _ {rules : Rules} {s : List ℕ} {due : Due} {p : CS.Span} {b : Begins} {tin tout : List ℕ} {r : Progress} where
-  pub read_is : {j m : ℕ} → r ≡ A.Done j m → ReadAs rules s due p b tin tout r
+module _ {rules : Rules} {s : List ℕ} {due : Due} {p : CS.Span} {b : Begins} {tin tout : List ℕ} {r : Result Progress Refusal} where
+  pub read_is : {j m : ℕ} → r ≡ Ok (record { stop = j; next = m }) → ReadAs rules s due p b tin tout r
       → ValueRead rules.sw rules.limits s (opened_by rules s due p b) (label_of due.label) p.start due.spot.depth due.spot.parent due.spot.node tin tout j m
   read_is e h = subst (ProgressIs rules.sw rules.limits s (opened_by rules s due p b) (label_of due.label) p.start due.spot.depth due.spot.parent due.spot.node tin tout) e h.is
 
-  pub value_refused : {f : Refusal} → r ≡ A.Refused f → ReadAs rules s due p b tin tout r → ValueRefused (opened_by rules s due p b) due.spot.depth due.spot.node tin tout f.number f.place
+  pub value_refused : {f : Refusal} → r ≡ Err f → ReadAs rules s due p b tin tout r → ValueRefused (opened_by rules s due p b) due.spot.depth due.spot.node tin tout f.number f.place
   value_refused e h = subst (ProgressIs rules.sw rules.limits s (opened_by rules s due p b) (label_of due.label) p.start due.spot.depth due.spot.parent due.spot.node tin tout) e h.is
 
   -- the value that is due, or its token's beginning, by another name
@@ -80,21 +80,21 @@ module _ {sw : Switches} {s : List ℕ} {kind : Kind} {z i : ℕ} {r : Item} whe
   pub last_is : {j : ℕ} → r ≡ I.Last j → ChildAt sw s kind z i r → Ends sw s kind i (turn_of z) j
   last_is e h = subst (ItemIs sw s kind i (turn_of z)) e h.is
 
-  pub item_refused : {f : Refusal} → r ≡ I.Refused f → ChildAt sw s kind z i r → Refuses sw s kind i (turn_of z) f.number f.place
+  pub item_refused : {f : Code.Refusal} → r ≡ I.Refused f → ChildAt sw s kind z i r → Refuses sw s kind i (turn_of z) (number_of f.reason) f.place
   item_refused e h = subst (ItemIs sw s kind i (turn_of z)) e h.is
 
-  pub item_refused_after : {key : CS.Span} {f : Refusal} → r ≡ I.RefusedAfter key f → ChildAt sw s kind z i r → RefusesAfter sw s kind i (turn_of z) f.number f.place key.start key.stop
+  pub item_refused_after : {key : CS.Span} {f : Code.Refusal} → r ≡ I.RefusedAfter key f → ChildAt sw s kind z i r → RefusesAfter sw s kind i (turn_of z) (number_of f.reason) f.place key.start key.stop
   item_refused_after e h = subst (ItemIs sw s kind i (turn_of z)) e h.is
 
 -- ---- a value that is due afresh
 
-module _ {rules : Rules} {s : List ℕ} {any : Bool} {key : CS.Span} {spot : Spot} {due : Due} {p : CS.Span} {tin tout : List ℕ} {r : Progress} where
-  pub fresh_read : {j m : ℕ} → due ≡ fresh_due any p.start key spot → r ≡ A.Done j m → ReadAs rules s due p (begins_at rules.sw s p) tin tout r
+module _ {rules : Rules} {s : List ℕ} {any : Bool} {key : CS.Span} {spot : Spot} {due : Due} {p : CS.Span} {tin tout : List ℕ} {r : Result Progress Refusal} where
+  pub fresh_read : {j m : ℕ} → due ≡ fresh_due any p.start key spot → r ≡ Ok (record { stop = j; next = m }) → ReadAs rules s due p (begins_at rules.sw s p) tin tout r
       → ValueRead rules.sw rules.limits s (opened_here rules.sw rules.limits s p.start p.stop any (span_at key.start key.stop) spot.node) (label p.start (span_at key.start key.stop) none) p.start spot.depth spot.parent spot.node tin tout j m
   unfolding label_of span_at
   fresh_read e q h = read_is q (due_as {other = fresh_due any p.start key spot} e h)
 
-  pub fresh_refused : {f : Refusal} → due ≡ fresh_due any p.start key spot → r ≡ A.Refused f → ReadAs rules s due p (begins_at rules.sw s p) tin tout r
+  pub fresh_refused : {f : Refusal} → due ≡ fresh_due any p.start key spot → r ≡ Err f → ReadAs rules s due p (begins_at rules.sw s p) tin tout r
       → ValueRefused (opened_here rules.sw rules.limits s p.start p.stop any (span_at key.start key.stop) spot.node) spot.depth spot.node tin tout f.number f.place
   unfolding label_of span_at
   fresh_refused e q h = value_refused q (due_as {other = fresh_due any p.start key spot} e h)
@@ -114,7 +114,7 @@ fresh_ready {limits} {tab} e w b ok =
 -- ---- what comes late, by the first child's node
 
 module _ {sw : Switches} {s : List ℕ} {kind : Kind} {tab : List ℕ} {c : Children} {x : ℕ} (e : c.first ≡ x) where
-  first_from : {r : Duplicate} → FirstDuplicate sw s kind tab c r → (ks : List (List ℕ)) → KnownKeys sw s kind tab x c.next ks → place_of r ≡ duplicate_in kind tab x ks
+  first_from : {r : Rust.Option ℕ} → FirstDuplicate sw s kind tab c r → (ks : List (List ℕ)) → KnownKeys sw s kind tab x c.next ks → place_of r ≡ duplicate_in kind tab x ks
   first_from {r} F ks = subst (λ (y : ℕ). KnownKeys sw s kind tab y c.next ks → place_of r ≡ duplicate_in kind tab y ks) e (F.is ks)
 
   late_from : {f r : Refusal} → RefusedLate sw s kind tab c f r → (ks : List (List ℕ)) → KnownKeys sw s kind tab x c.next ks
@@ -275,7 +275,7 @@ module _ {sw : Switches} {limits : Limits} {s : List ℕ} {kind : Kind} {l : Lab
       }
 
 -- the container's end: its row is written, or a key is a duplicate
-pub body_ended : {rules : Rules} {s : List ℕ} {due : Due} {p : CS.Span} {kind : Kind} {tin : List ℕ} {ts : Forest} {ks : List (List ℕ)} {j : ℕ} {c : Children} {tab out : List ℕ} {r : Progress}
+pub body_ended : {rules : Rules} {s : List ℕ} {due : Due} {p : CS.Span} {kind : Kind} {tin : List ℕ} {ts : Forest} {ks : List (List ℕ)} {j : ℕ} {c : Children} {tab out : List ℕ} {r : Result Progress Refusal}
     → SpansApart due.label → c.first ≡ due.spot.node + 1
     → Body rules.sw rules.limits s kind (label_of due.label) (opened_by rules s due p (container kind)) p.start due.spot.depth due.spot.node tin ts ks (λ stack. ended stack c.next (label_of due.label).name (branch (head_by (label_of due.label) j) kind ts)) j c.next c.count tab
     → BranchEnded rules.sw s due kind c j tab out r → ReadAs rules s due p (container kind) tin out r
@@ -286,8 +286,8 @@ body_ended {rules} {s} {due} {p} {kind} {tin} {ts} {ks} {j} {c} {tab} {out} {r} 
     ends o stack =
         unless_duplicate o (run_from rules.sw rules.limits s j (ended stack c.next (label_of due.label).name (branch (head_by (label_of due.label) j) kind ts)))
 
-    by : (f : Duplicate) → FirstDuplicate rules.sw s kind tab c f → r ≡ branch_progress f j c.next → out ≡ branch_table f due kind c j tab → ReadAs rules s due p (container kind) tin out r
-    by (D.At place) F q v =
+    by : (f : Rust.Option ℕ) → FirstDuplicate rules.sw s kind tab c f → r ≡ branch_progress f j c.next → out ≡ branch_table f due kind c j tab → ReadAs rules s due p (container kind) tin out r
+    by (Some place) F q v =
         record {
           is =
               subst (ProgressIs rules.sw rules.limits s (opened_by rules s due p (container kind)) (label_of due.label) p.start due.spot.depth due.spot.parent due.spot.node tin out)
@@ -297,7 +297,7 @@ body_ended {rules} {s} {due} {p} {kind} {tin} {ts} {ks} {j} {c} {tab} {out} {r} 
                 kept = λ x h. ap (λ (u : List ℕ). get_or u x 0) v ∙ body_kept B x h;
               });
         }
-    by D.Nowhere F q v =
+    by None F q v =
         record {
           is =
               subst (ProgressIs rules.sw rules.limits s (opened_by rules s due p (container kind)) (label_of due.label) p.start due.spot.depth due.spot.parent due.spot.node tin out)
@@ -374,7 +374,7 @@ module _ (rules : Rules) (s : List ℕ) (due : Due) (bracket : CS.Span) (kind : 
             rw (lt-leb rules.limits.depth (length stack) g, no_node_law rules.limits stack (value due.any none) due.fresh due.spot.node, f);
       }
 
-  pub open_refused : {number : ℕ} → number ≡ opening_refusal rules.limits due → (number ≡ 0 → ⊥) → ReadAs rules s due bracket (container kind) tab tab (A.Refused (refusal number bracket.start))
+  pub open_refused : {number : ℕ} → number ≡ opening_refusal rules.limits due → (number ≡ 0 → ⊥) → ReadAs rules s due bracket (container kind) tab tab (Err (refusal number bracket.start))
   open_refused {number} e some = record { is = by (leb rules.limits.depth due.spot.depth) (is_full rules.limits due) refl refl e }
     where
       by : (deep full : Bool) → leb rules.limits.depth due.spot.depth ≡ deep → is_full rules.limits due ≡ full → number ≡ cond deep 9 (cond full 10 0)

@@ -1,5 +1,6 @@
 -- The content call: what the token decoder answers and writes is what the call does, and what is refused before it.
 -- Assumes nothing.
+use Rattle.std.specs.Prelude.{Result, Ok, Err}
 use mathlib.Core.Path.{◌≡◌, refl, sym, ap, ◌∙◌}
 use mathlib.Core.Bool.{Bool, true, false, cond}
 use mathlib.Core.Option.{Option, none, some}
@@ -12,26 +13,24 @@ use borrow.Author.Tests.{le-leb, lt-leb}
 use Rattle.text.specs.declared.switches.Switches.{Switches}
 use Rattle.text.specs.Utf8.{utf8, is_whole, whole_front, is_utf8}
 use Rattle.text.proofs.Utf8Laws.{utf8_whole, utf8_less}
-use Rattle.literals.specs.declared.content.Written.{Written}
-use Rattle.literals.specs.declared.content.Written.TheVariants as W
+use Rattle.literals.specs.declared.content.ContentError.{ContentError}
+use Rattle.literals.specs.declared.content.ContentError.TheVariants.{NoContent, NoRoom}
 use Rattle.literals.specs.Content.{fitted, placed}
 use Rattle.lexer.specs.Token.{token_content}
-use Rattle.reader.specs.declared.content.Given.{Given}
-use Rattle.reader.specs.declared.content.Given.TheVariants as G
 use Rattle.reader.specs.Content.{part, is_span, content_alone, span_content, given, refused, fitting, content_call, written, content_given}
 
 -- what the call makes of the decoder's answer
-abbrev pub told : Written → Given
-told (W.Bytes n) = G.Bytes n
-told W.Refused = G.Refused 19
-told W.NoRoom = G.Refused 20
+abbrev pub content_told : Result ℕ ContentError → Result ℕ ℕ
+content_told (Ok n) = Ok n
+content_told (Err NoContent) = Err 19
+content_told (Err NoRoom) = Err 20
 
-told_fitted : (room : ℕ) (o : Option (List ℕ)) → told (fitted room o) ≡ content_given (fitting room o)
+told_fitted : (room : ℕ) (o : Option (List ℕ)) → content_told (fitted room o) ≡ content_given (fitting room o)
 unfolding fitted fitting content_given
 told_fitted room none = refl
 told_fitted room (some s) = choice (leb (length s) room)
   where
-    choice : (b : Bool) → told (cond b (W.Bytes (length s)) W.NoRoom) ≡ content_given (cond b (given s) (refused 20))
+    choice : (b : Bool) → content_told (cond b (Ok (length s)) (Err NoRoom)) ≡ content_given (cond b (given s) (refused 20))
     choice true = refl
     choice false = refl
 
@@ -63,36 +62,36 @@ module _ (sw : Switches) (token out : List ℕ) where
 
   -- bytes that are not UTF-8
   pub broken : (whole_front (utf8 token) ≡ length token → ⊥)
-      → (G.Refused 19 ≡ content_given (fitting (length out) (content_alone sw token))) × (out ≡ written (fitting (length out) (content_alone sw token)) out)
+      → (Err 19 ≡ content_given (fitting (length out) (content_alone sw token))) × (out ≡ written (fitting (length out) (content_alone sw token)) out)
   unfolding fitting content_given written
   broken h = rw (not_utf8 h) (refl, refl)
 
   -- bytes that are, by the decoder's answer w
-  pub decoded : (w : Written) (after : List ℕ) → whole_front (utf8 token) ≡ length token
+  pub decoded : (w : Result ℕ ContentError) (after : List ℕ) → whole_front (utf8 token) ≡ length token
       → fitted (length out) (token_content sw token) ≡ w → after ≡ placed (token_content sw token) out
-      → (told w ≡ content_given (fitting (length out) (content_alone sw token))) × (after ≡ written (fitting (length out) (content_alone sw token)) out)
+      → (content_told w ≡ content_given (fitting (length out) (content_alone sw token))) × (after ≡ written (fitting (length out) (content_alone sw token)) out)
   decoded w after h e f =
-      rw (is_utf8_law h) (ap told (sym e) ∙ told_fitted (length out) (token_content sw token), f ∙ placed_written (token_content sw token) out)
+      rw (is_utf8_law h) (ap content_told (sym e) ∙ told_fitted (length out) (token_content sw token), f ∙ placed_written (token_content sw token) out)
 
 module _ (sw : Switches) (start stop : ℕ) (text out : List ℕ) where
   -- no span
   off : is_span start stop text ≡ false
-      → (G.Refused 19 ≡ content_given (content_call sw start stop text out)) × (out ≡ written (content_call sw start stop text out) out)
+      → (Err 19 ≡ content_given (content_call sw start stop text out)) × (out ≡ written (content_call sw start stop text out) out)
   unfolding content_call span_content fitting content_given written
   off e = rw e (refl, refl)
 
   pub backwards : stop < start
-      → (G.Refused 19 ≡ content_given (content_call sw start stop text out)) × (out ≡ written (content_call sw start stop text out) out)
+      → (Err 19 ≡ content_given (content_call sw start stop text out)) × (out ≡ written (content_call sw start stop text out) out)
   unfolding is_span
   backwards h = off (rw (lt-leb start stop h))
 
   pub past : start ≤ stop → length text < stop
-      → (G.Refused 19 ≡ content_given (content_call sw start stop text out)) × (out ≡ written (content_call sw start stop text out) out)
+      → (Err 19 ≡ content_given (content_call sw start stop text out)) × (out ≡ written (content_call sw start stop text out) out)
   unfolding is_span
   past h k = off (rw (le-leb start stop h, lt-leb stop (length text) k))
 
   pub long : start ≤ stop → stop ≤ length text → 65536 < stop - start
-      → (G.Refused 19 ≡ content_given (content_call sw start stop text out)) × (out ≡ written (content_call sw start stop text out) out)
+      → (Err 19 ≡ content_given (content_call sw start stop text out)) × (out ≡ written (content_call sw start stop text out) out)
   unfolding is_span
   long h k l = off (rw (le-leb start stop h, le-leb stop (length text) k, lt-leb (stop - start) 65536 l))
 

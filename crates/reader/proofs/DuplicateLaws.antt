@@ -1,5 +1,6 @@
 -- Duplicate keys: the walk that looks for them, one child more, and what they come before.
 -- Assumes nothing.
+use Rattle.std.specs.Prelude.{Some, None}
 use mathlib.Core.Path.{◌≡◌, refl, sym, ap, ◌∙◌, subst}
 use Prim.Native.Nat.{ℕ, ◌+◌, ◌*◌, ◌<◌, ◌≤◌}
 use native.Mathlib.Omega.{arith}
@@ -8,13 +9,12 @@ use mathlib.Core.Option.{Option, none, some}
 use mathlib.Core.List.{List, [], ◌∷◌, ◌++◌, append_assoc, append-nil}
 use lib.ListN.{length, get_or}
 use Rattle.text.specs.declared.switches.Switches.{Switches}
-use Rattle.text.specs.declared.refusal.Refusal.{Refusal}
+use Rattle.text.specs.Refusal.{Refusal}
 use Rattle.text.specs.declared.span.Span as CS
 use Rattle.reader.specs.declared.tree.Kind.{Kind}
 use Rattle.reader.specs.declared.tree.Kind.TheVariants.{Object, Array, Tuple}
 use Rattle.reader.specs.declared.tree.Children.{Children}
-use Rattle.reader.specs.declared.duplicates.Duplicate.{Duplicate}
-use Rattle.reader.specs.declared.duplicates.Duplicate.TheVariants as D
+use Rattle.std.specs.declared.option.Option as Rust
 use Rattle.reader.specs.Tree.{node_words}
 use Rattle.reader.specs.Reading.{word_of}
 use Rattle.reader.specs.Syntax.{Outcome, refused, is_object, holds}
@@ -95,12 +95,12 @@ module _ (sw : Switches) (s tab : List ℕ) (from m : ℕ) where
   past_on x a e y seen T h p q r w k g = rw r (on_is x seen T.rest T.past T.siblings T.same_as h w (rw (p, q) at k) g)
 
   pub past_hit : (x a e : ℕ) (seen : List (List ℕ)) (T : Past sw s tab from x m seen) → x < m → a ≡ word_of tab x 4 → e ≡ word_of tab x 5
-      → (w : List ℕ) → KeyAt sw s a e w → holds seen w ≡ true → DuplicateAt sw s tab from m (D.At a)
+      → (w : List ℕ) → KeyAt sw s a e w → holds seen w ≡ true → DuplicateAt sw s tab from m (Some a)
   unfolding place_of
   past_hit x a e seen T h p q w k g =
       record { is = λ ks C. sym (T.same_as ks C ∙ hit_is x seen T.rest T.siblings h w (rw (p, q) at k) g ∙ ap some (sym p)) }
 
-  pub past_end : (x : ℕ) (seen : List (List ℕ)) → Past sw s tab from x m seen → m ≤ x → DuplicateAt sw s tab from m D.Nowhere
+  pub past_end : (x : ℕ) (seen : List (List ℕ)) → Past sw s tab from x m seen → m ≤ x → DuplicateAt sw s tab from m None
   unfolding place_of
   past_end x seen T h = record { is = λ ks C. sym (T.same_as ks C ∙ end_is x seen T.rest T.siblings h) }
 
@@ -214,27 +214,27 @@ module _ {sw : Switches} {s tab : List ℕ} {x m a e : ℕ} {f : Refusal} {r : B
 -- ---- refusals in a container
 
 module _ {sw : Switches} {s : List ℕ} {kind : Kind} {tab : List ℕ} {c : Children} where
-  pub first_object : {r : Duplicate} → kind ≡ Object → DuplicateAt sw s tab c.first c.next r → FirstDuplicate sw s kind tab c r
+  pub first_object : {r : Rust.Option ℕ} → kind ≡ Object → DuplicateAt sw s tab c.first c.next r → FirstDuplicate sw s kind tab c r
   unfolding duplicate_in
   first_object {r} e F = rw e (record { is = λ ks K. F.is ks (K.siblings refl) })
 
-  pub first_other : is_object kind ≡ false → FirstDuplicate sw s kind tab c D.Nowhere
+  pub first_other : is_object kind ≡ false → FirstDuplicate sw s kind tab c None
   unfolding duplicate_in place_of
   first_other e = record { is = λ ks K. rw e refl }
 
-  module _ {r : Duplicate} (F : FirstDuplicate sw s kind tab c r) where
-    pub first_as : {q : Duplicate} → r ≡ q → FirstDuplicate sw s kind tab c q
+  module _ {r : Rust.Option ℕ} (F : FirstDuplicate sw s kind tab c r) where
+    pub first_as : {q : Rust.Option ℕ} → r ≡ q → FirstDuplicate sw s kind tab c q
     first_as e = subst (FirstDuplicate sw s kind tab c) e F
 
-    pub late_at : {f : Refusal} {place : ℕ} → r ≡ D.At place → RefusedLate sw s kind tab c f (record { number = 8; place = place })
+    pub late_at : {f : Refusal} {place : ℕ} → r ≡ Some place → RefusedLate sw s kind tab c f (record { number = 8; place = place })
     unfolding unless_duplicate place_of
     late_at {f} {place} e = record { is = λ ks K. ap (λ (o : Option ℕ). unless_duplicate o (refused f.number f.place)) (ap place_of (sym e) ∙ F.is ks K) }
 
-    pub late_not : {f : Refusal} → r ≡ D.Nowhere → RefusedLate sw s kind tab c f f
+    pub late_not : {f : Refusal} → r ≡ None → RefusedLate sw s kind tab c f f
     unfolding unless_duplicate place_of
     late_not {f} e = record { is = λ ks K. ap (λ (o : Option ℕ). unless_duplicate o (refused f.number f.place)) (ap place_of (sym e) ∙ F.is ks K) }
 
-    pub late_after_at : {key : CS.Span} {f : Refusal} {place : ℕ} → r ≡ D.At place → RefusedLateAfter sw s kind tab c key f (record { number = 8; place = place })
+    pub late_after_at : {key : CS.Span} {f : Refusal} {place : ℕ} → r ≡ Some place → RefusedLateAfter sw s kind tab c key f (record { number = 8; place = place })
     unfolding unless_duplicate place_of
     late_after_at {key} {f} {place} e =
         record {
@@ -244,7 +244,7 @@ module _ {sw : Switches} {s : List ℕ} {kind : Kind} {tab : List ℕ} {c : Chil
         }
 
     -- the key itself is judged where it has none before it
-    late_after_not : {key : CS.Span} {f q : Refusal} → r ≡ D.Nowhere
+    late_after_not : {key : CS.Span} {f q : Refusal} → r ≡ None
         → ((ks : List (List ℕ)) → (is_object kind ≡ true → SiblingKeys sw s tab c.first c.next ks) → (w : List ℕ) → (is_object kind ≡ true → KeyAt sw s key.start key.stop w)
         → refused q.number q.place ≡ unless_duplicate (key_duplicate kind key.start ks w) (refused f.number f.place))
         → RefusedLateAfter sw s kind tab c key f q
@@ -257,12 +257,12 @@ module _ {sw : Switches} {s : List ℕ} {kind : Kind} {tab : List ℕ} {c : Chil
               ∙ ap (λ (o : Option ℕ). unless_duplicate o (unless_duplicate (key_duplicate kind key.start ks w) (refused f.number f.place))) (ap place_of (sym e) ∙ F.is ks K);
         }
 
-    pub late_after_key : {key : CS.Span} {f q : Refusal} → r ≡ D.Nowhere → kind ≡ Object → KeyRefused sw s tab c.first c.next key.start key.stop f q → RefusedLateAfter sw s kind tab c key f q
+    pub late_after_key : {key : CS.Span} {f q : Refusal} → r ≡ None → kind ≡ Object → KeyRefused sw s tab c.first c.next key.start key.stop f q → RefusedLateAfter sw s kind tab c key f q
     late_after_key {key} {f} {q} e o H =
         let y = ap is_object o in
         late_after_not {key = key} {f = f} {q = q} e
         (λ ks C w k. H.is w (k y) ks (C y) ∙ ap (λ (j : Kind). unless_duplicate (key_duplicate j key.start ks w) (refused f.number f.place)) (sym o))
 
-    pub late_after_other : {key : CS.Span} {f : Refusal} → r ≡ D.Nowhere → is_object kind ≡ false → RefusedLateAfter sw s kind tab c key f f
+    pub late_after_other : {key : CS.Span} {f : Refusal} → r ≡ None → is_object kind ≡ false → RefusedLateAfter sw s kind tab c key f f
     unfolding unless_duplicate key_duplicate
     late_after_other {key} {f} e o = late_after_not {key = key} {f = f} {q = f} e (λ ks C w k. rw o refl)

@@ -1,5 +1,6 @@
 -- The walk over few keys: contents side by side, one more of them, the search among them, and each way on and out.
 -- Assumes nothing.
+use Rattle.std.specs.Prelude.{Some, None}
 use mathlib.Core.Path.{◌≡◌, refl, sym, ap, ◌∙◌, subst}
 use Prim.Native.Nat.{ℕ, zero, suc, ◌+◌, ◌-◌, ◌<◌, ◌≤◌}
 use native.Mathlib.Omega.{arith}
@@ -10,7 +11,6 @@ use lib.Seq.{take-take, take-nil, take_at, drop_at, take-append-le, take-append-
 use Rattle.text.specs.declared.switches.Switches.{Switches}
 use Rattle.text.specs.Bytes.{same_bytes}
 use Rattle.literals.specs.InternalContent.{CopiedAs}
-use Rattle.reader.specs.declared.duplicates.Duplicate.TheVariants as D
 use Rattle.reader.specs.Reading.{word_of}
 use Rattle.reader.specs.Syntax.{holds}
 use Rattle.reader.specs.Internal.Values.{bytes_at, KeyHere, HaveKeys, DuplicateAt}
@@ -176,7 +176,7 @@ module _ {sw : Switches} {s tab bytes ends : List ℕ} {first x m n at : ℕ} (G
   pub few_walked : Walked sw s tab first x m
   few_walked = let T = G.past in record { seen = G.seen; rest = T.rest; past = T.past; siblings = T.siblings; same_as = T.same_as }
 
-  pub few_end : m ≤ x → DuplicateAt sw s tab first m D.Nowhere
+  pub few_end : m ≤ x → DuplicateAt sw s tab first m None
   few_end h = past_end sw s tab first m x G.seen G.past h
 
   module _ (here : x < m) where
@@ -204,7 +204,7 @@ module _ {sw : Switches} {s tab bytes ends : List ℕ} {first x m n at : ℕ} (G
           found : {b : Bool} → IsKept out ends n at r b → b ≡ holds G.seen few_key.content
           found I = I.is G.seen over ∙ ap (holds G.seen) (part_is out at r few_forward ∙ own)
 
-          pub few_hit : {b : Bool} → IsKept out ends n at r b → b ≡ true → DuplicateAt sw s tab first m (D.At a)
+          pub few_hit : {b : Bool} → IsKept out ends n at r b → b ≡ true → DuplicateAt sw s tab first m (Some a)
           few_hit I t = past_hit sw s tab first m x a e G.seen G.past here p q few_key.content few_key.key (sym (found I) ∙ t)
 
           pub few_on : {b : Bool} {y : ℕ} → IsKept out ends n at r b → b ≡ false → n < length ends → y ≡ word_of tab x 8 → Few sw s tab out (set ends n r) first y m (n + 1) r

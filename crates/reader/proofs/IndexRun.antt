@@ -1,5 +1,6 @@
 -- The walk over an object's keys by the index: what it keeps, and each way on and out.
 -- Assumes nothing.
+use Rattle.std.specs.Prelude.{Some, None}
 use mathlib.Core.Path.{◌≡◌, refl, sym, ◌∙◌, subst}
 use Prim.Native.Nat.{ℕ, zero, suc, ◌<◌, ◌≤◌}
 use native.Mathlib.Omega.{arith}
@@ -7,7 +8,6 @@ use mathlib.Core.Bool.{Bool, true, false}
 use mathlib.Core.List.{List, [], ◌∷◌, ◌++◌}
 use lib.ListN.{get_or, set, take, replicate, length-replicate}
 use Rattle.text.specs.declared.switches.Switches.{Switches}
-use Rattle.reader.specs.declared.duplicates.Duplicate.TheVariants as D
 use Rattle.reader.specs.declared.index.Lookup.{Lookup}
 use Rattle.reader.specs.declared.index.Lookup.TheVariants as L
 use Rattle.reader.specs.Reading.{max_nodes, word_of}
@@ -52,7 +52,7 @@ module _ {sw : Switches} {s tab links tests : List ℕ} {first x m : ℕ} (G : G
   pub grown_index : HasIndex sw s tab links tests
   grown_index = record { before = x; keys = G.seen; index = G.index }
 
-  pub grown_end : m ≤ x → DuplicateAt sw s tab first m D.Nowhere
+  pub grown_end : m ≤ x → DuplicateAt sw s tab first m None
   grown_end h = past_end sw s tab first m x G.seen G.past h
 
   module _ (here : x < m) where
@@ -64,7 +64,7 @@ module _ {sw : Switches} {s tab links tests : List ℕ} {first x m : ℕ} (G : G
       grown_key = past_key sw s tab first m x a e G.seen G.past here p q
 
       -- this key is among those before it
-      hit : (w : List ℕ) → KeyAt sw s a e w → holds G.seen w ≡ true → DuplicateAt sw s tab first m (D.At a)
+      hit : (w : List ℕ) → KeyAt sw s a e w → holds G.seen w ≡ true → DuplicateAt sw s tab first m (Some a)
       hit w k h = past_hit sw s tab first m x a e G.seen G.past here p q w k h
 
       on : {y : ℕ} → y ≡ word_of tab x 8 → (w : List ℕ) → KeyAt sw s a e w → holds G.seen w ≡ false → Past sw s tab first y m (G.seen ++ (w ∷ []))
@@ -74,7 +74,7 @@ module _ {sw : Switches} {s tab links tests : List ℕ} {first x m : ℕ} (G : G
       found F = F.is grown_key.content grown_key.key G.seen G.past.past
 
       -- one that is too long
-      pub long_hit : {r : Bool} → FoundKey sw s tab first x a e r → r ≡ true → DuplicateAt sw s tab first m (D.At a)
+      pub long_hit : {r : Bool} → FoundKey sw s tab first x a e r → r ≡ true → DuplicateAt sw s tab first m (Some a)
       long_hit F t = hit grown_key.content grown_key.key (sym (found F) ∙ t)
 
       module _ {out : List ℕ} {n : ℕ} (W : KeyWritten sw s a e out n) where
@@ -104,7 +104,7 @@ module _ {sw : Switches} {s tab links tests : List ℕ} {first x m : ℕ} (G : G
           asked {r} {r'} U e =
               subst (LookupIs sw s tab links tests G.seen grown_key.content) e (U.is x G.seen G.index grown_key.content short_is bytes_are)
 
-          pub short_hit : {r : Lookup} → LookedUp sw s tab links tests (take n out) r → r ≡ L.Known → DuplicateAt sw s tab first m (D.At a)
+          pub short_hit : {r : Lookup} → LookedUp sw s tab links tests (take n out) r → r ≡ L.Known → DuplicateAt sw s tab first m (Some a)
           short_hit U t = hit grown_key.content grown_key.key (asked U t)
 
           pub short_cell : {r : Lookup} {cell test : ℕ} → LookedUp sw s tab links tests (take n out) r → r ≡ L.New cell test → cell < cells

@@ -1,5 +1,6 @@
 -- What the functions of src/items.rt have found, one law for each way out.
 -- Assumes nothing.
+use Rattle.std.specs.Prelude.{Ok, Err}
 use mathlib.Core.Path.{◌≡◌, refl, sym, ap, ◌∙◌, subst}
 use Prim.Native.Nat.{ℕ, suc, ◌-◌, ◌≤◌, ◌<◌}
 use native.Mathlib.Omega.{arith}
@@ -19,13 +20,10 @@ use Rattle.lexer.specs.Internal.{is_key}
 use Rattle.reader.specs.declared.tree.Kind.{Kind}
 use Rattle.reader.specs.declared.tree.Kind.TheVariants.{Object}
 use Rattle.reader.specs.declared.tree.Limits.{Limits}
-use Rattle.text.specs.declared.refusal.Refusal.{Refusal}
-use Rattle.text.specs.Refusal.{refusal}
+use Rattle.text.specs.Refusal.{Refusal, refusal}
 use Rattle.text.specs.declared.span.Span as CS
 use Rattle.lexer.specs.declared.item.Token as CT
-use Rattle.reader.specs.declared.items.Ahead.{Ahead}
-use Rattle.reader.specs.declared.items.Ahead.TheVariants as H
-use Rattle.reader.specs.declared.items.Only.{Only}
+use Rattle.std.specs.declared.result.Result.{Result}
 use Rattle.reader.specs.declared.items.After.{After}
 use Rattle.reader.specs.declared.items.After.TheVariants as X
 use Rattle.reader.specs.declared.items.Item.{Item}
@@ -63,11 +61,11 @@ and_false false = refl
 
 -- ---- one mark, as it was told
 
-module _ {sw : Switches} {s : List ℕ} {from want : ℕ} {r : Only} where
-  pub mark_at : {stop : ℕ} → from ≤ length s → r ≡ Only.At stop → r ≡ only_at sw s from want → Marked sw s from want stop
+module _ {sw : Switches} {s : List ℕ} {from want : ℕ} {r : Result ℕ Refusal} where
+  pub mark_at : {stop : ℕ} → from ≤ length s → r ≡ Result.Ok stop → r ≡ only_at sw s from want → Marked sw s from want stop
   mark_at {stop} h e q = only_at_law sw s from want h stop (sym q ∙ e)
 
-  pub mark_refused : {f : Refusal} → from ≤ length s → r ≡ Only.Refused f → r ≡ only_at sw s from want → NotMarked sw s from want f.number f.place
+  pub mark_refused : {f : Refusal} → from ≤ length s → r ≡ Result.Err f → r ≡ only_at sw s from want → NotMarked sw s from want f.number f.place
   mark_refused {f} h e q = only_not sw s from want h f (sym q ∙ e)
 
 -- ---- the end, or no token
@@ -83,7 +81,7 @@ item_last sw s kind i slot k start stop p e =
       ran = λ limits l ts ks stack m. item_closes sw limits s i k start stop p kind l ts ks stack m slot (is_mark_law sw s k start stop t (closer kind) true e);
     }
 
-pub item_none : (sw : Switches) (s : List ℕ) (kind : Kind) (i : ℕ) (slot : Slot) (f : Refusal) → ahead_at sw s i ≡ H.Refused f
+pub item_none : (sw : Switches) (s : List ℕ) (kind : Kind) (i : ℕ) (slot : Slot) (f : Refusal) → ahead_at sw s i ≡ Err f
     → Refuses sw s kind i slot f.number f.place
 unfolding at_end
 item_none sw s kind i slot f e = record { ran = λ limits l ts ks stack m. ahead_refuses sw s i f e limits (inner_at kind l ts ks stack m slot) (λ place. refl) }
@@ -156,10 +154,10 @@ pub record Follows (sw : Switches) (s : List ℕ) (kind : Kind) (i j : ℕ) : Ty
       → run_from sw limits s i (inner_at kind l ts ks stack m after) ≡ run_from sw limits s j (inner_at kind l ts ks stack m more)
 
 -- a comma, the end or a refusal, by the code's answer
-abbrev pub NextIs : Switches → List ℕ → Kind → (i : ℕ) → After → Type 0
-NextIs sw s kind i (X.More j) = Follows sw s kind i j
-NextIs sw s kind i (X.Over j) = Ends sw s kind i after j
-NextIs sw s kind i (X.Refused f) = Refuses sw s kind i after f.number f.place
+abbrev pub NextIs : Switches → List ℕ → Kind → (i : ℕ) → Result After Refusal → Type 0
+NextIs sw s kind i (Ok (X.More j)) = Follows sw s kind i j
+NextIs sw s kind i (Ok (X.Over j)) = Ends sw s kind i after j
+NextIs sw s kind i (Err f) = Refuses sw s kind i after f.number f.place
 
 module _ (sw : Switches) (s : List ℕ) (kind : Kind) (i : ℕ) where
   module _ (k : TokenKind) (start stop : ℕ) (p : Peeked sw s i k start stop) where
@@ -185,19 +183,19 @@ module _ (sw : Switches) (s : List ℕ) (kind : Kind) (i : ℕ) where
               (after_step_law sw limits kind l ts ks stack m (token_at sw s start stop) (is_mark_law sw s k start stop p.token (closer kind) false e) (is_mark_law sw s k start stop p.token "," false f));
         }
 
-  next_by : i ≤ length s → (a : Ahead) → ahead_at sw s i ≡ a → NextIs sw s kind i (follows_by kind a)
+  next_by : i ≤ length s → (a : Result CT.Token Refusal) → ahead_at sw s i ≡ a → NextIs sw s kind i (follows_by kind a)
   unfolding follows_by
-  next_by h (H.Token t) q = by (mark_is t.kind (closer_byte kind)) (mark_is t.kind 44) refl refl
+  next_by h (Ok t) q = by (mark_is t.kind (closer_byte kind)) (mark_is t.kind 44) refl refl
     where
       by : (b c : Bool) → mark_is t.kind (closer_byte kind) ≡ b → mark_is t.kind 44 ≡ c
-          → NextIs sw s kind i (cond b (X.Over t.span.stop) (cond c (X.More t.span.stop) (X.Refused (refusal 7 t.span.start))))
+          → NextIs sw s kind i (cond b (Ok (X.Over t.span.stop)) (cond c (Ok (X.More t.span.stop)) (Err (refusal 7 t.span.start))))
       by true c e f = item_last sw s kind i after t.kind t.span.start t.span.stop (ahead_token sw s i t h q) e
       by false true e f = after_comma t.kind t.span.start t.span.stop (ahead_token sw s i t h q) e f
       by false false e f = after_other_law t.kind t.span.start t.span.stop (ahead_token sw s i t h q) e f
-  next_by h (H.Refused f) q = item_none sw s kind i after f q
+  next_by h (Err f) q = item_none sw s kind i after f q
 
   -- what `after_item` has answered
-  pub next_is : {r : After} → i ≤ length s → r ≡ follows_at sw s kind i → (q : After) → r ≡ q → NextIs sw s kind i q
+  pub next_is : {r : Result After Refusal} → i ≤ length s → r ≡ follows_at sw s kind i → (q : Result After Refusal) → r ≡ q → NextIs sw s kind i q
   next_is {r} h e q p = subst (NextIs sw s kind i) (sym e ∙ p) (next_by h (ahead_at sw s i) refl)
 
 -- ---- the next child, after the last one if there is one
@@ -259,12 +257,12 @@ unfolding span_at
 span_some a e h = let n : e ≡ 0 → ⊥ = λ q. omega arith in rw (ne_eqb e 0 n)
 
 -- after the key from `start` to `stop`: its colon and its value's first token
-abbrev pub AfterKeyIs : Switches → List ℕ → (start stop : ℕ) → Ahead → Type 0
-AfterKeyIs sw s start stop (H.Token t) =
+abbrev pub AfterKeyIs : Switches → List ℕ → (start stop : ℕ) → Result CT.Token Refusal → Type 0
+AfterKeyIs sw s start stop (Ok t) =
     (stop ≤ t.span.start) × TokenAt sw s t.kind t.span.start t.span.stop
     × ((limits : Limits) (stack : List Frame) (m : ℕ)
     → run_from sw limits s stop (config stack (colon (record { start = start; stop = stop })) m) ≡ opened_here sw limits s t.span.start t.span.stop true (some (record { start = start; stop = stop })) m stack)
-AfterKeyIs sw s start stop (H.Refused f) =
+AfterKeyIs sw s start stop (Err f) =
     (limits : Limits) (stack : List Frame) (m : ℕ) → run_from sw limits s stop (config stack (colon (record { start = start; stop = stop })) m) ≡ refused f.number f.place
 
 module _ (sw : Switches) (s : List ℕ) (key : CS.Span) where
@@ -280,9 +278,9 @@ module _ (sw : Switches) (s : List ℕ) (key : CS.Span) where
   unfolding step mode_step is_mark
   colon_goes limits stack m start stop = refl
 
-  after_by : key.stop ≤ length s → (a : Ahead) → ahead_after sw s key.stop 58 ≡ a → AfterKeyIs sw s key.start key.stop a
+  after_by : key.stop ≤ length s → (a : Result CT.Token Refusal) → ahead_after sw s key.stop 58 ≡ a → AfterKeyIs sw s key.start key.stop a
   unfolding colon_at at_end
-  after_by h (H.Token t) e =
+  after_by h (Ok t) e =
       let p = past_token sw s key.stop 58 h t e in
       let a = p.mark.ahead in
       let b = p.mark.some in
@@ -294,13 +292,13 @@ module _ (sw : Switches) (s : List ℕ) (key : CS.Span) where
             (colon_goes limits stack m p.mark.start p.place)
             ∙ value_opens sw limits s p.place t.kind t.span.start t.span.stop p.token true (some colon_at) stack m,
       )
-  after_by h (H.Refused f) e =
+  after_by h (Err f) e =
       λ limits stack m.
       past_refuses sw s key.stop 58 h f e limits (config stack (colon colon_at) m) (config stack (value true (some colon_at)) m) (colon_wants limits stack m)
       (colon_goes limits stack m) (λ place. refl)
 
   -- what `token_after` has answered
-  pub after_is : {r : Ahead} → key.stop ≤ length s → r ≡ ahead_after sw s key.stop 58 → (a : Ahead) → r ≡ a → AfterKeyIs sw s key.start key.stop a
+  pub after_is : {r : Result CT.Token Refusal} → key.stop ≤ length s → r ≡ ahead_after sw s key.stop 58 → (a : Result CT.Token Refusal) → r ≡ a → AfterKeyIs sw s key.start key.stop a
   after_is {r} h e a q = after_by h a (sym e ∙ q)
 
 -- a key's content, by the machine and by its bytes alone
@@ -382,7 +380,7 @@ module _ (sw : Switches) (s : List ℕ) (i : ℕ) (k : TokenKind) (start stop : 
         ∙ refuse_unless (holds ks w) start (config (frame Object l ts (ks ++ (w ∷ [])) ∷ stack) (colon (record { start = start; stop = stop })) m) (λ g. run_from sw limits s stop g)
 
     -- the value's first token comes after the key
-    pub field_value : length s ≤ max_text → (z : ℕ) (u : CT.Token) → AfterKeyIs sw s start stop (H.Token u) → Valued sw s Object i (slot_of z) u.kind u.span.start u.span.stop start stop
+    pub field_value : length s ≤ max_text → (z : ℕ) (u : CT.Token) → AfterKeyIs sw s start stop (Ok u) → Valued sw s Object i (slot_of z) u.kind u.span.start u.span.stop start stop
     unfolding w key_here
     field_value short z u A =
         let t = p.token in
@@ -408,7 +406,7 @@ module _ (sw : Switches) (s : List ℕ) (i : ℕ) (k : TokenKind) (start stop : 
         }
 
     -- what follows the key is refused
-    pub field_refused : (z : ℕ) (f : Refusal) → AfterKeyIs sw s start stop (H.Refused f) → RefusesAfter sw s Object i (slot_of z) f.number f.place start stop
+    pub field_refused : (z : ℕ) (f : Refusal) → AfterKeyIs sw s start stop (Err f) → RefusesAfter sw s Object i (slot_of z) f.number f.place start stop
     unfolding w
     field_refused z f A =
         record {

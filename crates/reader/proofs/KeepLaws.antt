@@ -22,8 +22,10 @@ use Rattle.literals.proofs.StepLaws.{spent, good_next}
 use Rattle.literals.proofs.TallyLaws.{start_sound}
 use Rattle.literals.specs.declared.number.Number.{Number}
 use Rattle.literals.specs.declared.number.Number.TheVariants.{Start, Bad, Sign, Zero, Digit, Underscore, Dot, Prefix, Based, BasedUnderscore, Fraction, FractionUnderscore, ExpLetter, ExpSign, ExpDigit, ExpUnderscore}
-use Rattle.literals.specs.declared.number.Meaning.{Meaning}
-use Rattle.literals.specs.declared.number.Meaning.TheVariants as N
+use Rattle.literals.specs.Number.{Meaning}
+use Rattle.std.specs.declared.result.Result.TheVariants.{Ok, Err}
+use Rattle.literals.specs.declared.number.NumberValue.TheVariants as N
+use Rattle.literals.specs.declared.number.NumberError.TheVariants as E
 use Rattle.literals.specs.Number.{number_step, most, signed_by, as_integer, as_decimal, meaning, number}
 use Rattle.lexer.specs.Token as L
 use Rattle.lexer.specs.Token.{Form, Item, item, item_at}
@@ -76,10 +78,10 @@ IntegerFits (pos n) = n ≤ most
 IntegerFits (negsuc n) = n ≤ most
 
 unfoldable Ranged : Meaning → Type 0
-Ranged (N.Integer z) = IntegerFits z
-Ranged (N.Decimal minus m p) = DecimalFits m p
-Ranged N.Malformed = Unit {0}
-Ranged N.TooWide = Unit {0}
+Ranged (Ok (N.Integer z)) = IntegerFits z
+Ranged (Ok (N.Decimal minus m p)) = DecimalFits m p
+Ranged (Err E.Malformed) = Unit {0}
+Ranged (Err E.TooWide) = Unit {0}
 
 signed_fits : (minus : Bool) (m : ℕ) → m ≤ cond minus (suc most) most → IntegerFits (signed_by minus m)
 unfolding IntegerFits

@@ -1,5 +1,6 @@
 -- The whole text: what its reading has answered and written, one law for each way out.
 -- Assumes nothing.
+use Rattle.std.specs.Prelude.{Ok, Err}
 use mathlib.Core.Path.{◌≡◌, refl, ap, sym, subst, ◌∙◌}
 use mathlib.Core.List.{List, [], ◌++◌}
 use mathlib.Core.Option.{none}
@@ -16,17 +17,15 @@ use Rattle.text.specs.Utf8.{utf8, is_whole, whole_front}
 use Rattle.text.proofs.Utf8Laws.{utf8_whole, utf8_less}
 use Rattle.lexer.specs.declared.item.TokenKind.{TokenKind}
 use Rattle.lexer.specs.declared.item.Next.{Next}
+use Rattle.std.specs.declared.result.Result.{Result}
 use Rattle.lexer.specs.declared.item.Next.TheVariants as N
 use Rattle.lexer.specs.Token.{tokens, tokens_from}
 use Rattle.lexer.specs.Answer.{first_of, refused_next}
 use Rattle.text.proofs.ListLaws.{drop_zeros}
 use Rattle.reader.specs.declared.tree.Limits.{Limits}
 use Rattle.reader.specs.declared.tree.Rules.{Rules}
-use Rattle.text.specs.declared.refusal.Refusal.{Refusal}
-use Rattle.reader.specs.declared.items.Ahead.TheVariants as H
+use Rattle.text.specs.Refusal.{Refusal}
 use Rattle.reader.specs.declared.read.Whole.{Whole}
-use Rattle.reader.specs.declared.read.Whole.TheVariants as W
-use Rattle.reader.specs.declared.read.Reading.TheVariants as R
 use Rattle.reader.specs.Tree.{rows, no_parent, padded, node_words}
 use Rattle.reader.specs.Syntax.{label, value, done, config, ended, finished, mode_step, step, Outcome, refused, at_end, run, before}
 use Rattle.reader.specs.Reading.{max_text, max_nodes, node_limit, limits_to, limits_alone, outcome, reading_to, table_of, answer_of, spans, one_value}
@@ -36,11 +35,11 @@ use Rattle.reader.specs.Internal.Whole.{alone_of, alone_at, TreeRead, TreeIs, Wh
 use Rattle.reader.proofs.TableLaws.{length_rows}
 use Rattle.reader.proofs.StepRun.{Peeked, peeked, ahead_refuses, peek_refuse, end_run, fault_run, value_opens}
 
-module _ {rules : Rules} {any : Bool} {s tin tout : List ℕ} {r : Whole} where
-  pub tree_is : {start stop nodes : ℕ} → r ≡ W.Done start stop nodes → JudgedAt rules any s tin tout r → TreeRead rules.limits (outcome rules.sw any rules.limits s) tin tout start stop nodes
+module _ {rules : Rules} {any : Bool} {s tin tout : List ℕ} {r : Result Whole Refusal} where
+  pub tree_is : {start stop nodes : ℕ} → r ≡ Ok (record { start = start; stop = stop; nodes = nodes }) → JudgedAt rules any s tin tout r → TreeRead rules.limits (outcome rules.sw any rules.limits s) tin tout start stop nodes
   tree_is e h = subst (TreeIs rules.limits (outcome rules.sw any rules.limits s) tin tout) e h.is
 
-  pub tree_not : {f : Refusal} → r ≡ W.Refused f → JudgedAt rules any s tin tout r → outcome rules.sw any rules.limits s ≡ refused f.number f.place
+  pub tree_not : {f : Refusal} → r ≡ Err f → JudgedAt rules any s tin tout r → outcome rules.sw any rules.limits s ≡ refused f.number f.place
   tree_not e h = subst (TreeIs rules.limits (outcome rules.sw any rules.limits s) tin tout) e h.is
 
 -- ---- one value and nothing after it
@@ -50,7 +49,7 @@ module _ (sw : Switches) (limits : Limits) (any : Bool) (s : List ℕ) where
   unfolding run_from tokens tokens_from before
   from_start = refl
 
-  pub whole_none : (f : Refusal) → ahead_at sw s 0 ≡ H.Refused f → run sw limits (tokens sw s) (before any) ≡ refused f.number f.place
+  pub whole_none : (f : Refusal) → ahead_at sw s 0 ≡ Err f → run sw limits (tokens sw s) (before any) ≡ refused f.number f.place
   unfolding at_end
   whole_none f e = from_start ∙ ahead_refuses sw s 0 f e limits (config [] (value any none) 0) (λ place. refl)
 
@@ -64,7 +63,7 @@ module _ (sw : Switches) (limits : Limits) (any : Bool) (s : List ℕ) where
       unfolding span_at ended finished
       to_done = from_start ∙ value_opens sw limits s 0 k start stop p any none [] 0 ∙ T.ran [] refl
 
-      whole_taken : (place : ℕ) → first_of (tokens_from sw s j) ≡ N.End place → TreeRead limits (run sw limits (tokens sw s) (before any)) tin tout start j m
+      whole_taken : (place : ℕ) → first_of (tokens_from sw s j) ≡ Ok (N.End place) → TreeRead limits (run sw limits (tokens sw s) (before any)) tin tout start j m
       unfolding at_end
       whole_taken place e =
           record {
@@ -85,13 +84,13 @@ module _ (sw : Switches) (limits : Limits) (any : Bool) (s : List ℕ) where
       whole_bad number place e = to_done ∙ fault_run sw limits s j (config [] (done T.tree) m) number place e
 
       -- what `only_value` has answered
-      whole_by : (x : Next) → first_of (tokens_from sw s j) ≡ x → TreeIs limits (run sw limits (tokens sw s) (before any)) tin tout (alone_of start j m x)
+      whole_by : (x : Result Next Refusal) → first_of (tokens_from sw s j) ≡ x → TreeIs limits (run sw limits (tokens sw s) (before any)) tin tout (alone_of start j m x)
       unfolding alone_of
-      whole_by (N.Token t) e = whole_more t.kind t.span.start t.span.stop (peeked sw s j t.kind t.span.start t.span.stop T.inside e)
-      whole_by (N.End place) e = whole_taken place e
-      whole_by (N.Refused f) e = whole_bad f.number f.place e
+      whole_by (Ok (N.Token t)) e = whole_more t.kind t.span.start t.span.stop (peeked sw s j t.kind t.span.start t.span.stop T.inside e)
+      whole_by (Ok (N.End place)) e = whole_taken place e
+      whole_by (Err f) e = whole_bad f.number f.place e
 
-      pub whole_is : (r : Whole) → r ≡ alone_at sw s start j m → TreeIs limits (run sw limits (tokens sw s) (before any)) tin tout r
+      pub whole_is : (r : Result Whole Refusal) → r ≡ alone_at sw s start j m → TreeIs limits (run sw limits (tokens sw s) (before any)) tin tout r
       whole_is r e = subst (TreeIs limits (run sw limits (tokens sw s) (before any)) tin tout) (sym e) (whole_by (first_of (tokens_from sw s j)) refl)
 
 -- ---- length, then UTF-8, then the rest
@@ -121,12 +120,12 @@ module _ (sw : Switches) (limits : Limits) (any : Bool) (s : List ℕ) where
       let g : length s ≤ whole_front (utf8 s) = omega arith in
       rw (le-leb (length s) max_text h, whole_not (is_whole (utf8 s)) refl g)
 
-  judged_is : (tin tout : List ℕ) (r : Whole) (o q : Outcome) → q ≡ o → TreeIs limits o tin tout r → TreeIs limits q tin tout r
-  judged_is tin tout (W.Done start stop nodes) o q e T =
+  judged_is : (tin tout : List ℕ) (r : Result Whole Refusal) (o q : Outcome) → q ≡ o → TreeIs limits o tin tout r → TreeIs limits q tin tout r
+  judged_is tin tout (Ok w) o q e T =
       record { tree = T.tree; is = e ∙ T.is; begun = T.begun; stopped = T.stopped; grew = T.grew; below = T.below; wrote = T.wrote }
-  judged_is tin tout (W.Refused f) o q e T = e ∙ T
+  judged_is tin tout (Err f) o q e T = e ∙ T
 
-pub judged : (rules : Rules) (any : Bool) (s tin tout : List ℕ) (r : Whole) (front : ℕ) → length s ≤ max_text → front ≡ whole_front (utf8 s) → length s ≤ front → WholeAt rules any s tin tout r
+pub judged : (rules : Rules) (any : Bool) (s tin tout : List ℕ) (r : Result Whole Refusal) (front : ℕ) → length s ≤ max_text → front ≡ whole_front (utf8 s) → length s ≤ front → WholeAt rules any s tin tout r
     → JudgedAt rules any s tin tout r
 judged rules any s tin tout r front h e l T =
     record {
@@ -167,21 +166,21 @@ module _ (sw : Switches) (s : List ℕ) (depth words : ℕ) (limits : Limits) (e
   to_reading = ap (λ (x : Limits). outcome sw false x s) (sym e)
 
   pub read_taken : (tout : List ℕ) (start stop nodes : ℕ) → TreeRead limits (outcome sw false limits s) tin tout start stop nodes
-      → (R.Taken nodes ≡ answer_of (reading_to sw depth words s)) × (tout ≡ table_of words (reading_to sw depth words s))
+      → (Ok nodes ≡ answer_of (reading_to sw depth words s)) × (tout ≡ table_of words (reading_to sw depth words s))
   unfolding answer_of table_of
   read_taken tout start stop nodes T =
       let w = limit_room words in
       let n : limits.nodes ≡ node_limit words = ap (λ (x : Limits). x.nodes) e in
       let b = T.below in
       let g = T.grew in (
-        ap R.Taken g ∙ sym (ap answer_of (to_reading ∙ T.is)),
+        ap Ok g ∙ sym (ap answer_of (to_reading ∙ T.is)),
         T.wrote ∙ ap (λ (l : List ℕ). sets l 0 (rows no_parent 0 T.tree)) z
             ∙ rows_on_zeros words (rows no_parent 0 T.tree) (omega (arith, length_rows no_parent 0 T.tree))
             ∙ sym (ap (table_of words) (to_reading ∙ T.is)),
       )
 
   pub read_refused : (tout last : List ℕ) (f : Refusal) → length tout ≡ length tin → last ≡ replicate (length tout) 0 → outcome sw false limits s ≡ refused f.number f.place
-      → (R.Refused f ≡ answer_of (reading_to sw depth words s)) × (last ≡ table_of words (reading_to sw depth words s))
+      → (Err f ≡ answer_of (reading_to sw depth words s)) × (last ≡ table_of words (reading_to sw depth words s))
   unfolding answer_of table_of
   read_refused tout last f l w o =
       let n : length tout ≡ words = l ∙ ap length z ∙ length-replicate words 0 in

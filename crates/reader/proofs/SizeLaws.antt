@@ -1,5 +1,6 @@
 -- A taken tree has no more nodes than the limit, so that its words fit the table, and the table keeps its length.
 -- Assumes nothing.
+use Rattle.std.specs.Prelude.{Ok, Err}
 use mathlib.Core.Path.{◌≡◌, refl, sym, ap, ◌∙◌}
 use Prim.Native.Nat.{ℕ, suc, ◌+◌, ◌-◌, ◌/◌, ◌≤◌, min, zero-le}
 use native.Mathlib.Nat.{div-mul-le_self}
@@ -17,8 +18,7 @@ use Rattle.text.proofs.Choice.{cond_both}
 use Rattle.reader.specs.Tree.{Span, Tree, leaf, branch, Forest, nil, cons, snoc, count, size, sizes, rows, rows_all, padded, no_parent, node_words}
 use Rattle.reader.specs.declared.tree.Limits.{Limits}
 use Rattle.reader.specs.Syntax.{Label, Frame, Slot, first, lone, after, more, Mode, value, named, inner, close, inside, colon, done, Config, Step, go, refuse, Begins, container, scalar, identifier, nothing, span_of, is_mark, closer, is_object, key_of, begins, head_by, with_stop, label, finished, ended, go_to, refuse_if, is_comma, empty_by_comma, holds, key_step, close_or, no_node, counted, value_step, fresh_value, child_step, slot_step, mode_step, step, Outcome, taken, refused, at_end, after_step, run, before}
-use Rattle.text.specs.declared.refusal.Refusal.{Refusal}
-use Rattle.reader.specs.declared.read.Reading.TheVariants as R
+use Rattle.text.specs.Refusal.{Refusal}
 use Rattle.reader.specs.Reading.{outcome, reading, is_taken, node_limit, limits_of, node_count, table_of, answer_of, max_text}
 use Rattle.reader.proofs.StopLaws.{stops_size}
 use Rattle.reader.proofs.TableLaws.{length_rows}
@@ -223,22 +223,22 @@ table_law sw words text = let h = count_law sw words text in table_length words 
 
 -- ---- what an answer tells: that the text is taken, and the count
 
-pub taken_is : (o : Outcome) (n : ℕ) → answer_of o ≡ R.Taken n → is_taken o ≡ true
+pub taken_is : (o : Outcome) (n : ℕ) → answer_of o ≡ Ok n → is_taken o ≡ true
 unfolding answer_of is_taken
 taken_is (taken tree) n e = refl
 taken_is (refused k p) n e = cc
 
-pub taken_not : (o : Outcome) (f : Refusal) → answer_of o ≡ R.Refused f → is_taken o ≡ false
+pub taken_not : (o : Outcome) (f : Refusal) → answer_of o ≡ Err f → is_taken o ≡ false
 unfolding answer_of is_taken
 taken_not (taken tree) f e = cc
 taken_not (refused k p) f e = refl
 
-pub taken_nodes : (o : Outcome) (n : ℕ) → answer_of o ≡ R.Taken n → n ≡ node_count o
+pub taken_nodes : (o : Outcome) (n : ℕ) → answer_of o ≡ Ok n → n ≡ node_count o
 unfolding answer_of node_count
 taken_nodes (taken tree) n e = cc
 taken_nodes (refused k p) n e = cc
 
-pub refused_nodes : (o : Outcome) (f : Refusal) → answer_of o ≡ R.Refused f → 0 ≡ node_count o
+pub refused_nodes : (o : Outcome) (f : Refusal) → answer_of o ≡ Err f → 0 ≡ node_count o
 unfolding answer_of node_count
 refused_nodes (taken tree) f e = cc
 refused_nodes (refused k p) f e = refl

@@ -1,5 +1,6 @@
 -- The machine's run by what the code has peeked at: one token's step, and what a container's slots do with a token.
 -- Assumes nothing.
+use Rattle.std.specs.Prelude.{Ok, Err}
 use mathlib.Core.Path.{◌≡◌, refl, sym, ap, ◌∙◌, subst}
 use Prim.Native.Nat.{ℕ, suc, ◌-◌, ◌≤◌, ◌<◌}
 use native.Mathlib.Omega.{arith}
@@ -21,13 +22,9 @@ use Rattle.lexer.proofs.NextLaws.{next_ahead, next_end, next_fault}
 use Rattle.reader.specs.declared.tree.Kind.{Kind}
 use Rattle.reader.specs.declared.tree.Kind.TheVariants.{Object, Array, Tuple}
 use Rattle.reader.specs.declared.tree.Limits.{Limits}
-use Rattle.text.specs.declared.refusal.Refusal.{Refusal}
-use Rattle.text.specs.Refusal.{refusal}
+use Rattle.text.specs.Refusal.{Refusal, refusal}
 use Rattle.lexer.specs.declared.item.Token as CT
-use Rattle.reader.specs.declared.items.Ahead.{Ahead}
-use Rattle.reader.specs.declared.items.Ahead.TheVariants as H
-use Rattle.reader.specs.declared.items.Only.{Only}
-use Rattle.reader.specs.declared.items.Only.TheVariants as O
+use Rattle.std.specs.declared.result.Result.{Result}
 use Rattle.reader.specs.Tree.{Span, branch, Forest}
 use Rattle.reader.specs.Syntax.{Label, label, Frame, frame, Slot, first, lone, after, more, Mode, value, inside, Config, config, Step, go, refuse, Begins, container, scalar, identifier, nothing, begins, span_of, is_mark, is_object, closer, key_of, head_by, ended, key_step, close_or, empty_by_comma, no_node, counted, value_step, fresh_value, child_step, slot_step, mode_step, step, refused, at_end, after_step, run}
 use Rattle.reader.specs.Internal.Tokens.{form_of, form_at, token_at, TokenAt}
@@ -105,7 +102,7 @@ module _ (sw : Switches) (limits : Limits) (s : List ℕ) (from : ℕ) (c : Conf
   mark_go want stop d m e =
       ap (λ (ts : Tokens). run sw limits ts c) m.toks ∙ ap (λ (x : Step). after_step m.start x (λ g. run sw limits (tokens_from sw s stop) g)) e
 
-  pub end_run : (place : ℕ) → first_of (tokens_from sw s from) ≡ N.End place → run_from sw limits s from c ≡ at_end place c.mode
+  pub end_run : (place : ℕ) → first_of (tokens_from sw s from) ≡ Ok (N.End place) → run_from sw limits s from c ≡ at_end place c.mode
   unfolding run_from run
   end_run place e = ap (λ (ts : Tokens). run sw limits ts c) (next_end sw s from place e)
 
@@ -178,66 +175,66 @@ module _ (sw : Switches) (s : List ℕ) (from want : ℕ) where
 
 -- ---- what the functions that look ahead have answered
 
-token_is : (x : Next) (t : CT.Token) → ahead_of x ≡ H.Token t → x ≡ N.Token t
+token_is : (x : Result Next Refusal) (t : CT.Token) → ahead_of x ≡ Ok t → x ≡ Ok (N.Token t)
 unfolding ahead_of
-token_is (N.Token u) t e = let h : u ≡ t = cc in ap N.Token h
-token_is (N.End place) t e = cc
-token_is (N.Refused f) t e = cc
+token_is (Ok (N.Token u)) t e = let h : u ≡ t = cc in (λ i. Ok (N.Token (h i)))
+token_is (Ok (N.End place)) t e = cc
+token_is (Err f) t e = cc
 
 module _ (sw : Switches) (s : List ℕ) (from : ℕ) where
   -- a token
-  pub ahead_token : (t : CT.Token) → from ≤ length s → ahead_at sw s from ≡ H.Token t → Peeked sw s from t.kind t.span.start t.span.stop
+  pub ahead_token : (t : CT.Token) → from ≤ length s → ahead_at sw s from ≡ Ok t → Peeked sw s from t.kind t.span.start t.span.stop
   ahead_token t h e = peeked sw s from t.kind t.span.start t.span.stop h (token_is (first_of (tokens_from sw s from)) t e)
 
   -- a fault or the text's end: every state in which the text may not end comes to this refusal
-  pub ahead_refuses : (f : Refusal) → ahead_at sw s from ≡ H.Refused f → (limits : Limits) (c : Config) → Unended c
+  pub ahead_refuses : (f : Refusal) → ahead_at sw s from ≡ Err f → (limits : Limits) (c : Config) → Unended c
       → run_from sw limits s from c ≡ refused f.number f.place
   unfolding ahead_of
   ahead_refuses f e limits c ends = on (first_of (tokens_from sw s from)) refl e
     where
-      on : (x : Next) → first_of (tokens_from sw s from) ≡ x → ahead_of x ≡ H.Refused f → run_from sw limits s from c ≡ refused f.number f.place
-      on (N.Token u) q r = let z : ◌≡◌ {A = ℕ} 0 1 = cc in absurd (omega arith)
-      on (N.End place) q r =
+      on : (x : Result Next Refusal) → first_of (tokens_from sw s from) ≡ x → ahead_of x ≡ Err f → run_from sw limits s from c ≡ refused f.number f.place
+      on (Ok (N.Token u)) q r = let z : ◌≡◌ {A = ℕ} 0 1 = cc in absurd (omega arith)
+      on (Ok (N.End place)) q r =
           let h : refusal 7 place ≡ f = cc in
           end_run sw limits s from c place q ∙ ends place ∙ (λ i. refused (h i).number (h i).place)
-      on (N.Refused g) q r =
+      on (Err g) q r =
           let h : g ≡ f = cc in
           fault_run sw limits s from c g.number g.place q ∙ (λ i. refused (h i).number (h i).place)
 
 module _ (sw : Switches) (s : List ℕ) (from want : ℕ) (h : from ≤ length s) where
   -- the mark that has to come next
-  pub only_at_law : (stop : ℕ) → only_at sw s from want ≡ O.At stop → Marked sw s from want stop
+  pub only_at_law : (stop : ℕ) → only_at sw s from want ≡ Ok stop → Marked sw s from want stop
   unfolding only_of
   only_at_law stop e = on (ahead_at sw s from) refl e
     where
-      by : (t : CT.Token) → ahead_at sw s from ≡ H.Token t → (b : Bool) → mark_is t.kind want ≡ b
-          → cond b (O.At t.span.stop) (O.Refused (refusal 7 t.span.start)) ≡ O.At stop → Marked sw s from want stop
+      by : (t : CT.Token) → ahead_at sw s from ≡ Ok t → (b : Bool) → mark_is t.kind want ≡ b
+          → cond b (Ok t.span.stop) (Err (refusal 7 t.span.start)) ≡ Ok stop → Marked sw s from want stop
       by t q true m r =
           let x : t.span.stop ≡ stop = cc in
           subst (Marked sw s from want) x (marked sw s from want t.kind t.span.start t.span.stop (ahead_token sw s from t h q) m)
       by t q false m r = let z : ◌≡◌ {A = ℕ} 0 1 = cc in absurd (omega arith)
 
-      on : (a : Ahead) → ahead_at sw s from ≡ a → only_of want a ≡ O.At stop → Marked sw s from want stop
-      on (H.Token t) q r = by t q (mark_is t.kind want) refl r
-      on (H.Refused f) q r = let z : ◌≡◌ {A = ℕ} 0 1 = cc in absurd (omega arith)
+      on : (a : Result CT.Token Refusal) → ahead_at sw s from ≡ a → only_of want a ≡ Ok stop → Marked sw s from want stop
+      on (Ok t) q r = by t q (mark_is t.kind want) refl r
+      on (Err f) q r = let z : ◌≡◌ {A = ℕ} 0 1 = cc in absurd (omega arith)
 
-  pub only_not : (f : Refusal) → only_at sw s from want ≡ O.Refused f → NotMarked sw s from want f.number f.place
+  pub only_not : (f : Refusal) → only_at sw s from want ≡ Err f → NotMarked sw s from want f.number f.place
   unfolding only_of
   only_not f e = on (ahead_at sw s from) refl e
     where
-      by : (t : CT.Token) → ahead_at sw s from ≡ H.Token t → (b : Bool) → mark_is t.kind want ≡ b
-          → cond b (O.At t.span.stop) (O.Refused (refusal 7 t.span.start)) ≡ O.Refused f → NotMarked sw s from want f.number f.place
+      by : (t : CT.Token) → ahead_at sw s from ≡ Ok t → (b : Bool) → mark_is t.kind want ≡ b
+          → cond b (Ok t.span.stop) (Err (refusal 7 t.span.start)) ≡ Err f → NotMarked sw s from want f.number f.place
       by t q true m r = let z : ◌≡◌ {A = ℕ} 0 1 = cc in absurd (omega arith)
       by t q false m r =
           let x : refusal 7 t.span.start ≡ f = cc in
           subst (λ (g : Refusal). NotMarked sw s from want g.number g.place) x
           (not_marked sw s from want t.kind t.span.start t.span.stop (ahead_token sw s from t h q) m)
 
-      on : (a : Ahead) → ahead_at sw s from ≡ a → only_of want a ≡ O.Refused f → NotMarked sw s from want f.number f.place
-      on (H.Token t) q r = by t q (mark_is t.kind want) refl r
-      on (H.Refused g) q r =
+      on : (a : Result CT.Token Refusal) → ahead_at sw s from ≡ a → only_of want a ≡ Err f → NotMarked sw s from want f.number f.place
+      on (Ok t) q r = by t q (mark_is t.kind want) refl r
+      on (Err g) q r =
           let x : g ≡ f = cc in
-          record { ran = λ limits c w. ahead_refuses sw s from f (q ∙ ap H.Refused x) limits c w.ends }
+          record { ran = λ limits c w. ahead_refuses sw s from f (q ∙ ap Err x) limits c w.ends }
 
 -- this mark comes next, and then this token
 pub record PastMark (sw : Switches) (s : List ℕ) (from want : ℕ) (t : CT.Token) : Type 0 where
@@ -246,30 +243,30 @@ pub record PastMark (sw : Switches) (s : List ℕ) (from want : ℕ) (t : CT.Tok
   pub token : Peeked sw s place t.kind t.span.start t.span.stop
 
 module _ (sw : Switches) (s : List ℕ) (from want : ℕ) (h : from ≤ length s) where
-  pub past_token : (t : CT.Token) → ahead_after sw s from want ≡ H.Token t → PastMark sw s from want t
+  pub past_token : (t : CT.Token) → ahead_after sw s from want ≡ Ok t → PastMark sw s from want t
   unfolding past_mark
   past_token t e = on (only_at sw s from want) refl e
     where
-      on : (o : Only) → only_at sw s from want ≡ o → past_mark sw s o ≡ H.Token t → PastMark sw s from want t
-      on (O.At place) q r =
+      on : (o : Result ℕ Refusal) → only_at sw s from want ≡ o → past_mark sw s o ≡ Ok t → PastMark sw s from want t
+      on (Ok place) q r =
           let m = only_at_law sw s from want h place q in
           record { place = place; mark = m; token = ahead_token sw s place t m.inside r }
-      on (O.Refused f) q r = let z : ◌≡◌ {A = ℕ} 0 1 = cc in absurd (omega arith)
+      on (Err f) q r = let z : ◌≡◌ {A = ℕ} 0 1 = cc in absurd (omega arith)
 
   -- a state in which that mark alone is allowed, and which it leads to one in which the text may not end
-  pub past_refuses : (f : Refusal) → ahead_after sw s from want ≡ H.Refused f → (limits : Limits) (c d : Config) → Wants sw limits want c
+  pub past_refuses : (f : Refusal) → ahead_after sw s from want ≡ Err f → (limits : Limits) (c d : Config) → Wants sw limits want c
       → ((start stop : ℕ) → step sw limits c (record { form = L.mark want; start = start; stop = stop }) ≡ go d) → Unended d
       → run_from sw limits s from c ≡ refused f.number f.place
   unfolding past_mark
   past_refuses f e limits c d w goes ends = on (only_at sw s from want) refl e
     where
-      on : (o : Only) → only_at sw s from want ≡ o → past_mark sw s o ≡ H.Refused f → run_from sw limits s from c ≡ refused f.number f.place
-      on (O.At place) q r =
+      on : (o : Result ℕ Refusal) → only_at sw s from want ≡ o → past_mark sw s o ≡ Err f → run_from sw limits s from c ≡ refused f.number f.place
+      on (Ok place) q r =
           let m = only_at_law sw s from want h place q in
           mark_go sw limits s from c want place d m (goes m.start place) ∙ ahead_refuses sw s place f r limits d ends
-      on (O.Refused g) q r =
+      on (Err g) q r =
           let x : g ≡ f = cc in
-          (only_not sw s from want h f (q ∙ ap O.Refused x)).ran limits c w
+          (only_not sw s from want h f (q ∙ ap Err x)).ran limits c w
 
 -- ---- slots
 

@@ -1,5 +1,6 @@
 -- Values, identifiers, and the value in an identifier's brackets: what their readers have done, one law for each way out.
 -- Assumes nothing.
+use Rattle.std.specs.Prelude.{Ok, Err}
 use mathlib.Core.Path.{◌≡◌, refl, ap, sym, subst, ◌∙◌}
 use mathlib.Core.List.{List}
 use mathlib.Core.Option.{Option, none, some}
@@ -15,17 +16,16 @@ use Rattle.lexer.specs.declared.item.TokenKind.{TokenKind}
 use Rattle.lexer.specs.Token as L
 use Rattle.reader.specs.declared.tree.Words.{Words}
 use Rattle.reader.specs.declared.tree.Limits.{Limits}
-use Rattle.text.specs.declared.refusal.Refusal.{Refusal}
-use Rattle.text.specs.Refusal.{refusal}
+use Rattle.text.specs.Refusal.{Refusal, refusal}
 use Rattle.reader.specs.declared.tree.Rules.{Rules}
 use Rattle.reader.specs.declared.tree.Due.{Due}
 use Rattle.reader.specs.declared.tree.Label as CL
 use Rattle.lexer.specs.declared.item.Token as CT
 use Rattle.text.specs.declared.span.Span as CS
 use Rattle.reader.specs.declared.tree.Begin.{Begin}
-use Rattle.reader.specs.declared.items.Ahead.TheVariants as H
+use Rattle.std.specs.declared.option.Option as Rust
 use Rattle.reader.specs.declared.values.Progress.{Progress}
-use Rattle.reader.specs.declared.values.Progress.TheVariants as A
+use Rattle.std.specs.declared.result.Result.{Result}
 use Rattle.reader.specs.Tree.{Span, leaf, size, head_of, rows, node_words}
 use Rattle.reader.specs.Syntax.{Label, label, Frame, value, named, inner, close, config, Step, go, refuse_if, Begins, scalar, identifier, nothing, begins, span_of, is_mark, head_by, with_stop, ended, finished, no_node, counted, value_step, mode_step, step, Outcome, at_end, after_step}
 use Rattle.reader.specs.Internal.Tokens.{form_at, token_at, LeafIs, BeginIs, Begun, begins_at}
@@ -40,8 +40,8 @@ use Rattle.reader.proofs.BodyRun.{no_node_law, count_one, node_left}
 
 -- ---- what a token begins
 
-module _ {sw : Switches} {s : List ℕ} {start stop : ℕ} {r : Begin} where
-  pub begun_as : (q : Begin) → r ≡ q → Begun sw s start stop r → BeginIs sw s start stop q
+module _ {sw : Switches} {s : List ℕ} {start stop : ℕ} {r : Rust.Option Begin} where
+  pub begun_as : (q : Rust.Option Begin) → r ≡ q → Begun sw s start stop r → BeginIs sw s start stop q
   begun_as q e h = subst (BeginIs sw s start stop) e h.is
 
 -- ---- values that hold no others
@@ -95,7 +95,7 @@ module _ (sw : Switches) (limits : Limits) (s : List ℕ) (start stop : ℕ) (fr
       }
 
 -- what `put_leaf` has answered and written
-pub leaf_read : {rules : Rules} {s : List ℕ} {due : Due} {p : CS.Span} {w : Words} {tin tout : List ℕ} {r : Progress} → Ready rules.limits tin due → Placed s p
+pub leaf_read : {rules : Rules} {s : List ℕ} {due : Due} {p : CS.Span} {w : Words} {tin tout : List ℕ} {r : Result Progress Refusal} → Ready rules.limits tin due → Placed s p
     → LeafIs rules.sw s p.start p.stop w → r ≡ leaf_progress rules.limits due p → tout ≡ leaf_table rules.limits due p w tin
     → ReadAs rules s due p (begins_at rules.sw s p) tin tout r
 unfolding leaf_progress leaf_table
@@ -106,7 +106,7 @@ leaf_read {rules} {s} {due} {p} {w} {tin} {tout} {r} R P W e v = by due.any (is_
     same_table q S = record { ran = S.ran; kept = λ x h. ap (λ (l : List ℕ). get_or l x 0) q }
 
     by : (a f : Bool) → due.any ≡ a → is_full rules.limits due ≡ f
-        → r ≡ cond a (cond f (A.Refused (refusal 10 p.start)) (A.Done p.stop (due.spot.node + 1))) (A.Refused (refusal 7 p.start))
+        → r ≡ cond a (cond f (Err (refusal 10 p.start)) (Ok (record { stop = p.stop; next = (due.spot.node + 1) }))) (Err (refusal 7 p.start))
         → tout ≡ cond a (cond f tin (sets tin (node_words * due.spot.node) (row_of due w p.stop (due.spot.node + 1)))) tin
         → ReadAs rules s due p (begins_at rules.sw s p) tin tout r
     by true true a f q u =
@@ -194,7 +194,7 @@ module _ (sw : Switches) (limits : Limits) (s : List ℕ) (start stop : ℕ) (fr
     named_goes stack a e = refl
 
     -- no bracket, or no token in it
-    pub name_not : (f : Refusal) (tab : List ℕ) → stop ≤ length s → ahead_after sw s stop 40 ≡ H.Refused f
+    pub name_not : (f : Refusal) (tab : List ℕ) → stop ≤ length s → ahead_after sw s stop 40 ≡ Err f
         → ValueRefused (opened sw limits s start stop fresh any (label_of p) n identifier) d n tab tab f.number f.place
     unfolding at_end
     name_not f tab i q =

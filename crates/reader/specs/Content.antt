@@ -1,13 +1,11 @@
--- The content call (document 01, "Content of a string"). The code answers with an enum of its own, src/content.rt: `content_given` gives it.
+-- The content call (document 01, "Content of a string"). The code answers with a `Result`: `content_given` gives it.
 -- Assumes nothing.
-use Rattle.std.specs.Prelude.{ℕ, ◌-◌, Bool, cond, ◌&&◌, List, ◌++◌, leb, length, take, drop}
+use Rattle.std.specs.Prelude.{ℕ, Result, Ok, Err, ◌-◌, Bool, cond, ◌&&◌, List, ◌++◌, leb, length, take, drop}
 use Rattle.std.proofs.Math.Option.{Option, none, some}
 use Rattle.text.specs.declared.switches.Switches.{Switches}
 use Rattle.text.specs.Utf8.{is_utf8}
 use Rattle.lexer.specs.Token.{token_content}
 use Rattle.reader.specs.Reading.{max_text}
-use Rattle.reader.specs.declared.content.Given.{Given}
-use Rattle.reader.specs.declared.content.Given.TheVariants as G
 
 -- the part of a text from `start` to before `stop`
 abbrev pub part : (start stop : ℕ) → List ℕ → List ℕ
@@ -44,7 +42,7 @@ unfoldable pub written : ContentAnswer → List ℕ → List ℕ
 written (given content) out = content ++ drop (length content) out
 written (refused number) out = out
 
--- the code's enum for each case: the bytes written, or the number of the refusal
-unfoldable pub content_given : ContentAnswer → Given
-content_given (given content) = G.Bytes (length content)
-content_given (refused number) = G.Refused number
+-- each case as a result: the bytes written, or the number of the refusal
+unfoldable pub content_given : ContentAnswer → Result ℕ ℕ
+content_given (given content) = Ok (length content)
+content_given (refused number) = Err number

@@ -1,14 +1,13 @@
 -- The reading of a text: a tree, or a refusal with its place; the table that it gives; one value read alone.
 -- Assumes nothing.
-use Rattle.std.specs.Prelude.{ℕ, ◌+◌, ◌*◌, ◌/◌, min, Bool, true, false, cond, ◌&&◌, List, leb, eqb, length, replicate, get_or}
+use Rattle.std.specs.Prelude.{ℕ, ◌+◌, ◌*◌, ◌/◌, min, Bool, true, false, cond, ◌&&◌, List, leb, eqb, length, replicate, get_or, Ok, Err}
 use Rattle.text.specs.declared.switches.Switches.{Switches}
-use Rattle.text.specs.Refusal.{refusal}
+use Rattle.text.specs.Refusal.{refusal, Refusal}
 use Rattle.text.specs.Utf8.{utf8, is_whole, whole_front}
 use Rattle.lexer.specs.Token.{tokens}
 use Rattle.reader.specs.Tree.{head_of, size, rows, padded, node_words, no_parent}
 use Rattle.reader.specs.declared.tree.Limits.{Limits}
-use Rattle.reader.specs.declared.read.Reading.{Reading}
-use Rattle.reader.specs.declared.read.Reading.TheVariants as R
+use Rattle.std.specs.declared.result.Result.{Result}
 use Rattle.reader.specs.Syntax.{Outcome, taken, refused, run, before}
 
 -- ---- sizes
@@ -79,9 +78,9 @@ table_of words (taken tree) = padded words (rows no_parent 0 tree)
 table_of words (refused number place) = replicate words 0
 
 -- the code's answer, src/read.rt: the node count, or document 01's number and place of the refusal
-unfoldable pub answer_of : Outcome → Reading
-answer_of (taken tree) = R.Taken (size tree)
-answer_of (refused number place) = R.Refused (refusal number place)
+unfoldable pub answer_of : Outcome → Result ℕ Refusal
+answer_of (taken tree) = Ok (size tree)
+answer_of (refused number place) = Err (refusal number place)
 
 -- word `i` of a node in a table
 abbrev pub word_of : List ℕ → (node i : ℕ) → ℕ

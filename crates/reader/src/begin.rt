@@ -99,43 +99,43 @@ fn opens_with_capital(word: &[u8]) -> bool
     word[0] <= b'Z'
 }
 
-fn word_begin(word: &[u8]) -> Begin
+fn word_begin(word: &[u8]) -> Option<Begin>
     ensures { result ≡ word_begin word.now }
 {
     if same_bytes(word, b"true") {
-        return Begin::Scalar(plain_leaf(kinds::TRUE));
+        return Some(Begin::Scalar(plain_leaf(kinds::TRUE)));
     }
     if same_bytes(word, b"false") {
-        return Begin::Scalar(plain_leaf(kinds::FALSE));
+        return Some(Begin::Scalar(plain_leaf(kinds::FALSE)));
     }
     if same_bytes(word, b"null") {
-        return Begin::Scalar(plain_leaf(kinds::NULL));
+        return Some(Begin::Scalar(plain_leaf(kinds::NULL)));
     }
     if opens_with_capital(word) {
-        return Begin::Identifier;
+        return Some(Begin::Identifier);
     }
-    Begin::Nothing
+    None
 }
 
-fn mark_begin(b: u8) -> Begin
+fn mark_begin(b: u8) -> Option<Begin>
     ensures { result ≡ mark_begin b }
 {
     if b == b'{' {
-        return Begin::Container(Kind::Object);
+        return Some(Begin::Container(Kind::Object));
     }
     if b == b'[' {
-        return Begin::Container(Kind::Array);
+        return Some(Begin::Container(Kind::Array));
     }
     if b == b'(' {
-        return Begin::Container(Kind::Tuple);
+        return Some(Begin::Container(Kind::Tuple));
     }
-    Begin::Nothing
+    None
 }
 
 // ---- tokens
 
 // What a token begins.
-pub(crate) fn begin_of(text: &[u8], token: Token) -> Begin
+pub(crate) fn begin_of(text: &[u8], token: Token) -> Option<Begin>
     requires token_here { TokenHere text.now token }
     requires text_len_bound { length text.now ≤ max_text }
     ensures { BeginsHere text.now token result }
@@ -146,19 +146,19 @@ pub(crate) fn begin_of(text: &[u8], token: Token) -> Begin
     match kind {
         TokenKind::Mark(b) => mark_begin(b),
         TokenKind::Word => word_begin(&text[start..stop]),
-        TokenKind::Text(n) => Begin::Scalar(Words {
+        TokenKind::Text(n) => Some(Begin::Scalar(Words {
             kind: kinds::TEXT,
             low: start as u32,
             high: stop as u32,
             extra: n as u32,
-        }),
-        TokenKind::Bytes(n) => Begin::Scalar(Words {
+        })),
+        TokenKind::Bytes(n) => Some(Begin::Scalar(Words {
             kind: kinds::BYTES,
             low: start as u32,
             high: stop as u32,
             extra: n as u32,
-        }),
-        TokenKind::Integer(value) => Begin::Scalar(integer_leaf(value)),
-        TokenKind::Decimal { minus, m, p } => Begin::Scalar(decimal_leaf(minus, m, p)),
+        })),
+        TokenKind::Integer(value) => Some(Begin::Scalar(integer_leaf(value))),
+        TokenKind::Decimal { minus, m, p } => Some(Begin::Scalar(decimal_leaf(minus, m, p))),
     }
 }

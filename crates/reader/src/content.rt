@@ -1,33 +1,27 @@
 // The content call: the content of a string or key, given the text and a span.
 ghost use Rattle.std.specs.Prelude.{◌≡◌, length};
+ghost use Rattle.text.specs.Refusal.{numbered};
 ghost use Rattle.text.specs.Switches.{present_edition};
 ghost use Rattle.reader.specs.Content.{content_alone, fitting, content_call, content_given, written};
 
 use lexer::token::put_token;
-use literals::content::Written;
-use text::refusal::{NO_STRING, OUTPUT_FULL};
+use literals::content::ContentError;
+use text::refusal::Reason;
 use text::span::MAX_TEXT;
 use text::switches::{Switches, present};
 use text::utf8::valid_front;
 
-// How many bytes were written, or the number of the refusal, 19 or 20.
-#[derive(Clone, Copy)]
-pub enum Given {
-    Bytes(usize),
-    Refused(u8),
-}
-
 // Writes the content of a token at the output's front, if the bytes are one string or key and the output has room for it.
-fn token_content(sw: Switches, token: &[u8], out: &mut [u8]) -> Given
-    ensures { (result ≡ content_given (fitting (length out.old) (content_alone sw token.now))) × (out.new ≡ written (fitting (length out.old) (content_alone sw token.now)) out.old) }
+fn token_content(sw: Switches, token: &[u8], out: &mut [u8]) -> Result<usize, Reason>
+    ensures { (numbered result ≡ content_given (fitting (length out.old) (content_alone sw token.now))) × (out.new ≡ written (fitting (length out.old) (content_alone sw token.now)) out.old) }
 {
     if valid_front(token) != token.len() {
-        return Given::Refused(NO_STRING);
+        return Err(Reason::NoString);
     }
     match put_token(sw, token, out) {
-        Written::Bytes(n) => Given::Bytes(n),
-        Written::NoRoom => Given::Refused(OUTPUT_FULL),
-        Written::Refused => Given::Refused(NO_STRING),
+        Ok(n) => Ok(n),
+        Err(ContentError::NoRoom) => Err(Reason::OutputFull),
+        Err(ContentError::NoContent) => Err(Reason::NoString),
     }
 }
 
@@ -39,24 +33,24 @@ pub(crate) fn content_edition(
     start: usize,
     end: usize,
     out: &mut [u8],
-) -> Given
-    ensures { (result ≡ content_given (content_call sw start end text.now out.old)) × (out.new ≡ written (content_call sw start end text.now out.old) out.old) }
+) -> Result<usize, Reason>
+    ensures { (numbered result ≡ content_given (content_call sw start end text.now out.old)) × (out.new ≡ written (content_call sw start end text.now out.old) out.old) }
 {
     if end < start {
-        return Given::Refused(NO_STRING);
+        return Err(Reason::NoString);
     }
     if text.len() < end {
-        return Given::Refused(NO_STRING);
+        return Err(Reason::NoString);
     }
     if MAX_TEXT < end - start {
-        return Given::Refused(NO_STRING);
+        return Err(Reason::NoString);
     }
     token_content(sw, &text[start..end], out)
 }
 
 // The same for a text of the present edition.
-pub fn content(text: &[u8], start: usize, end: usize, out: &mut [u8]) -> Given
-    ensures { (result ≡ content_given (content_call present_edition start end text.now out.old)) × (out.new ≡ written (content_call present_edition start end text.now out.old) out.old) }
+pub fn content(text: &[u8], start: usize, end: usize, out: &mut [u8]) -> Result<usize, Reason>
+    ensures { (numbered result ≡ content_given (content_call present_edition start end text.now out.old)) × (out.new ≡ written (content_call present_edition start end text.now out.old) out.old) }
 {
     content_edition(present(), text, start, end, out)
 }

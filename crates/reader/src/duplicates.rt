@@ -10,13 +10,6 @@ use text::bytes::same_bytes;
 use text::span::Span;
 use text::switches::Switches;
 
-// The place of a duplicate key.
-#[derive(Clone, Copy)]
-pub enum Duplicate {
-    At(usize),
-    Nowhere,
-}
-
 // Room for the contents of keys, side by side.
 const KEPT_BYTES: usize = 1024;
 
@@ -64,7 +57,7 @@ fn duplicate_from(
     table: &[u32],
     children: Children,
     from: usize,
-) -> Duplicate
+) -> Option<usize>
     requires { Walked sw text.now table.now children.first from children.next }
     ensures { DuplicateAt sw text.now table.now children.first children.next result }
 {
@@ -79,11 +72,11 @@ fn duplicate_from(
             count: children.count,
         };
         if find_key(sw, text, table, earlier, key) {
-            return Duplicate::At(start);
+            return Some(start);
         }
         child = word_of(table, child, NEXT);
     }
-    Duplicate::Nowhere
+    None
 }
 
 // The first key of the children that stands among those before it: quick where they are few. Each is decoded once and compared
@@ -93,7 +86,7 @@ pub(crate) fn duplicate_by_walk(
     text: &[u8],
     table: &[u32],
     children: Children,
-) -> Duplicate
+) -> Option<usize>
     requires { HaveKeys sw text.now table.now children.first children.next }
     ensures { DuplicateAt sw text.now table.now children.first children.next result }
 {
@@ -116,12 +109,12 @@ pub(crate) fn duplicate_by_walk(
             return duplicate_from(sw, text, table, children, child);
         }
         if is_kept(&bytes, &ends, count, at, end) {
-            return Duplicate::At(start);
+            return Some(start);
         }
         ends[count] = end;
         at = end;
         count += 1;
         child = word_of(table, child, NEXT);
     }
-    Duplicate::Nowhere
+    None
 }

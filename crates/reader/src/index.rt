@@ -24,7 +24,6 @@ ghost use Rattle.reader.specs.Internal.Index.{
   LookedUp,
 };
 
-use super::duplicates::Duplicate;
 use super::keys::{copy_key, find_key};
 use super::rows::{KEY_START, KEY_STOP, NEXT, word_of};
 use super::tree::{Children, MAX_NODES};
@@ -235,7 +234,7 @@ fn index_keys(
     links: &mut [u16],
     tests: &mut [u16],
     children: Children,
-) -> Duplicate
+) -> Option<usize>
     requires have_keys { HaveKeys sw text.now table.now children.first children.next }
     requires first_nonzero { (0 < children.first) × (children.next ≤ max_nodes) }
     requires vacant { Vacant links.old tests.old }
@@ -261,11 +260,11 @@ fn index_keys(
                 count: children.count,
             };
             if find_key(sw, text, table, earlier, key) {
-                return Duplicate::At(place);
+                return Some(place);
             }
         } else {
             match look_up(sw, text, table, links, tests, &own[..n], &mut other) {
-                Lookup::Known => return Duplicate::At(place),
+                Lookup::Known => return Some(place),
                 Lookup::New(cell, test) => {
                     links[cell] = child as u16;
                     tests[child] = test;
@@ -273,7 +272,7 @@ fn index_keys(
             }
         }
     }
-    Duplicate::Nowhere
+    None
 }
 
 // The first key of the children that stands among those before it. The index takes 28 KiB of the stack.
@@ -282,7 +281,7 @@ pub(crate) fn duplicate_by_index(
     text: &[u8],
     table: &[u32],
     children: Children,
-) -> Duplicate
+) -> Option<usize>
     requires have_keys { HaveKeys sw text.now table.now children.first children.next }
     requires first_nonzero { (0 < children.first) × (children.next ≤ max_nodes) }
     ensures { DuplicateAt sw text.now table.now children.first children.next result }

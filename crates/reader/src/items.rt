@@ -1,5 +1,6 @@
 // What stands where a child or the end of a container is due, and what follows a child.
 ghost use Rattle.std.specs.Prelude.{◌≡◌, false, ◌&&◌, eqb, ◌≤◌, length};
+ghost use Rattle.text.specs.Refusal.{refusal, told, told_by};
 ghost use Rattle.reader.specs.Reading.{max_text};
 ghost use Rattle.reader.specs.Syntax.{is_object, empty_by_comma};
 ghost use Rattle.reader.specs.Internal.Ahead.{
@@ -15,23 +16,9 @@ ghost use Rattle.reader.specs.Internal.Values.{ItemAt, FieldAt, ChildAt};
 use super::tree::Kind;
 use lexer::item::{Next, Token, TokenKind, next_token};
 use lexer::token::is_key;
-use text::refusal::{Refusal, UNEXPECTED};
+use text::refusal::{Reason, Refusal};
 use text::span::Span;
 use text::switches::Switches;
-
-// The next token, where the text may not end.
-#[derive(Clone, Copy)]
-pub enum Ahead {
-    Token(Token),
-    Refused(Refusal),
-}
-
-// The end of the next token, where one mark alone is allowed.
-#[derive(Clone, Copy)]
-pub enum Only {
-    At(usize),
-    Refused(Refusal),
-}
 
 // A child's first token with its key's span, the end of the container, or a refusal; or a refusal after a key, which stands only if the key
 // is new.
@@ -43,12 +30,11 @@ pub enum Item {
     RefusedAfter { key: Span, refusal: Refusal },
 }
 
-// After a child: the end of a comma, the end of the container, or a refusal.
+// After a child: the end of a comma, or the end of the container.
 #[derive(Clone, Copy)]
 pub enum After {
     More(usize),
     Over(usize),
-    Refused(Refusal),
 }
 
 // ---- tokens
@@ -71,47 +57,52 @@ fn is_mark(token: Token, b: u8) -> bool
     }
 }
 
+// A token is not allowed where it stands.
+fn unexpected(token: Token) -> Refusal
+    ensures { told_by result ≡ refusal 7 token.span.start }
+{
+    Refusal {
+        reason: Reason::Unexpected,
+        place: token.span.start,
+    }
+}
+
 // The next token; the text's end is refused with 7.
-pub(crate) fn token_from(sw: Switches, text: &[u8], from: usize) -> Ahead
-    ensures { result ≡ ahead_at sw text.now from }
+pub(crate) fn token_from(sw: Switches, text: &[u8], from: usize) -> Result<Token, Refusal>
+    ensures { told result ≡ ahead_at sw text.now from }
 {
     match next_token(sw, text, from) {
-        Next::Token(token) => Ahead::Token(token),
-        Next::End(place) => Ahead::Refused(Refusal {
-            number: UNEXPECTED,
+        Ok(Next::Token(token)) => Ok(token),
+        Ok(Next::End(place)) => Err(Refusal {
+            reason: Reason::Unexpected,
             place,
         }),
-        Next::Refused(refusal) => Ahead::Refused(refusal),
+        Err(refusal) => Err(refusal),
     }
 }
 
 // The next token, which has to be this mark.
-pub(crate) fn one_mark(sw: Switches, text: &[u8], from: usize, want: u8) -> Only
-    ensures { result ≡ only_at sw text.now from want }
+pub(crate) fn one_mark(sw: Switches, text: &[u8], from: usize, want: u8) -> Result<usize, Refusal>
+    ensures { told result ≡ only_at sw text.now from want }
 {
-    match token_from(sw, text, from) {
-        Ahead::Token(token) => {
-            if is_mark(token, want) {
-                return Only::At(token.span.stop);
-            }
-            let place = token.span.start;
-            Only::Refused(Refusal {
-                number: UNEXPECTED,
-                place,
-            })
-        }
-        Ahead::Refused(refusal) => Only::Refused(refusal),
+    let token = token_from(sw, text, from)?;
+    if is_mark(token, want) {
+        return Ok(token.span.stop);
     }
+    Err(unexpected(token))
 }
 
 // The token after this mark, which has to come next.
-pub(crate) fn token_after(sw: Switches, text: &[u8], from: usize, want: u8) -> Ahead
-    ensures { result ≡ ahead_after sw text.now from want }
+pub(crate) fn token_after(
+    sw: Switches,
+    text: &[u8],
+    from: usize,
+    want: u8,
+) -> Result<Token, Refusal>
+    ensures { told result ≡ ahead_after sw text.now from want }
 {
-    match one_mark(sw, text, from, want) {
-        Only::At(stop) => token_from(sw, text, stop),
-        Only::Refused(refusal) => Ahead::Refused(refusal),
-    }
+    let stop = one_mark(sw, text, from, want)?;
+    token_from(sw, text, stop)
 }
 
 // ---- containers
@@ -158,14 +149,14 @@ fn next_element(sw: Switches, text: &[u8], kind: Kind, count: usize, from: usize
 {
     let closer = closer_of(kind);
     match token_from(sw, text, from) {
-        Ahead::Token(token) => {
+        Ok(token) => {
             if is_mark(token, closer) {
                 return Item::Last(token.span.stop);
             }
             if opens_empty(sw, kind, count, token) {
                 return match one_mark(sw, text, token.span.stop, closer) {
-                    Only::At(stop) => Item::Last(stop),
-                    Only::Refused(refusal) => Item::Refused(refusal),
+                    Ok(stop) => Item::Last(stop),
+                    Err(refusal) => Item::Refused(refusal),
                 };
             }
             Item::Value {
@@ -173,7 +164,7 @@ fn next_element(sw: Switches, text: &[u8], kind: Kind, count: usize, from: usize
                 key: Span { start: 0, stop: 0 },
             }
         }
-        Ahead::Refused(refusal) => Item::Refused(refusal),
+        Err(refusal) => Item::Refused(refusal),
     }
 }
 
@@ -184,24 +175,20 @@ fn next_field(sw: Switches, text: &[u8], from: usize) -> Item
     ensures { FieldAt sw text.now from result }
 {
     match token_from(sw, text, from) {
-        Ahead::Token(token) => {
+        Ok(token) => {
             if is_mark(token, b'}') {
                 return Item::Last(token.span.stop);
             }
-            let place = token.span.start;
             if is_key(token) {
                 let key = token.span;
                 return match token_after(sw, text, key.stop, b':') {
-                    Ahead::Token(first) => Item::Value { token: first, key },
-                    Ahead::Refused(refusal) => Item::RefusedAfter { key, refusal },
+                    Ok(first) => Item::Value { token: first, key },
+                    Err(refusal) => Item::RefusedAfter { key, refusal },
                 };
             }
-            Item::Refused(Refusal {
-                number: UNEXPECTED,
-                place,
-            })
+            Item::Refused(unexpected(token))
         }
-        Ahead::Refused(refusal) => Item::Refused(refusal),
+        Err(refusal) => Item::Refused(refusal),
     }
 }
 
@@ -219,26 +206,18 @@ fn next_item(sw: Switches, text: &[u8], kind: Kind, count: usize, from: usize) -
 }
 
 // What follows a child.
-fn after_item(sw: Switches, text: &[u8], kind: Kind, from: usize) -> After
-    ensures { result ≡ follows_at sw text.now kind from }
+fn after_item(sw: Switches, text: &[u8], kind: Kind, from: usize) -> Result<After, Refusal>
+    ensures { told result ≡ follows_at sw text.now kind from }
 {
     let closer = closer_of(kind);
-    match token_from(sw, text, from) {
-        Ahead::Token(token) => {
-            if is_mark(token, closer) {
-                return After::Over(token.span.stop);
-            }
-            if is_mark(token, b',') {
-                return After::More(token.span.stop);
-            }
-            let place = token.span.start;
-            After::Refused(Refusal {
-                number: UNEXPECTED,
-                place,
-            })
-        }
-        Ahead::Refused(refusal) => After::Refused(refusal),
+    let token = token_from(sw, text, from)?;
+    if is_mark(token, closer) {
+        return Ok(After::Over(token.span.stop));
     }
+    if is_mark(token, b',') {
+        return Ok(After::More(token.span.stop));
+    }
+    Err(unexpected(token))
 }
 
 // A child's first token, or the end, of a container that has so many children, from where the last of them ends, or from the opening
@@ -253,8 +232,8 @@ pub(crate) fn next_child(sw: Switches, text: &[u8], kind: Kind, count: usize, fr
         return next_item(sw, text, kind, count, from);
     }
     match after_item(sw, text, kind, from) {
-        After::Refused(refusal) => Item::Refused(refusal),
-        After::Over(end) => Item::Last(end),
-        After::More(comma) => next_item(sw, text, kind, count, comma),
+        Err(refusal) => Item::Refused(refusal),
+        Ok(After::Over(end)) => Item::Last(end),
+        Ok(After::More(comma)) => next_item(sw, text, kind, count, comma),
     }
 }

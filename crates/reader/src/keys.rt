@@ -1,4 +1,5 @@
 // Keys: the content of one; and whether one stands among the keys of an object's children so far, which are found by following word 8.
+ghost use Rattle.text.specs.Refusal.{told_by};
 ghost use Rattle.std.specs.Prelude.{◌≤◌, length};
 ghost use Rattle.reader.specs.Internal.Values.{HaveKeys, KeyHere, KeyCopied, FoundKey, KeyRefused};
 
@@ -6,7 +7,7 @@ use super::rows::{KEY_START, KEY_STOP, NEXT, word_of};
 use super::tree::Children;
 use lexer::token::{content_is, part_of};
 use literals::copy::copy_content;
-use text::refusal::{DUPLICATE_KEY, Refusal};
+use text::refusal::{Reason, Refusal};
 use text::span::Span;
 use text::switches::Switches;
 
@@ -70,12 +71,12 @@ pub(crate) fn key_refusal(
 ) -> Refusal
     requires have_keys { HaveKeys sw text.now table.now children.first children.next }
     requires key_here { KeyHere sw text.now key.start key.stop }
-    ensures { KeyRefused sw text.now table.now children.first children.next key.start key.stop refusal result }
+    ensures { KeyRefused sw text.now table.now children.first children.next key.start key.stop (told_by refusal) (told_by result) }
 {
     if find_key(sw, text, table, children, key) {
         let place = key.start;
         return Refusal {
-            number: DUPLICATE_KEY,
+            reason: Reason::DuplicateKey,
             place,
         };
     }

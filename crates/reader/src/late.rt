@@ -1,5 +1,6 @@
 // What a container's refusals come to. Its duplicate keys are looked for once, where it ends or where anything in it is refused; a
 // duplicate comes before all that stands after it, so it is what is refused then.
+ghost use Rattle.text.specs.Refusal.{told_by};
 ghost use Rattle.reader.specs.Internal.Values.{
   Keys,
   KeyIn,
@@ -8,11 +9,11 @@ ghost use Rattle.reader.specs.Internal.Values.{
   RefusedLateAfter,
 };
 
-use super::duplicates::{Duplicate, duplicate_by_walk};
+use super::duplicates::duplicate_by_walk;
 use super::index::duplicate_by_index;
 use super::keys::key_refusal;
 use super::tree::{Children, Kind};
-use text::refusal::{DUPLICATE_KEY, Refusal};
+use text::refusal::{Reason, Refusal};
 use text::span::Span;
 use text::switches::Switches;
 
@@ -26,7 +27,7 @@ pub(crate) fn find_duplicate(
     table: &[u32],
     kind: Kind,
     children: Children,
-) -> Duplicate
+) -> Option<usize>
     requires { Keys sw text.now kind table.now children }
     ensures { FirstDuplicate sw text.now kind table.now children result }
 {
@@ -37,8 +38,8 @@ pub(crate) fn find_duplicate(
             }
             duplicate_by_index(sw, text, table, children)
         }
-        Kind::Array => Duplicate::Nowhere,
-        Kind::Tuple => Duplicate::Nowhere,
+        Kind::Array => None,
+        Kind::Tuple => None,
     }
 }
 
@@ -52,14 +53,14 @@ pub(crate) fn late_refusal(
     refusal: Refusal,
 ) -> Refusal
     requires { Keys sw text.now kind table.now children }
-    ensures { RefusedLate sw text.now kind table.now children refusal result }
+    ensures { RefusedLate sw text.now kind table.now children (told_by refusal) (told_by result) }
 {
     match find_duplicate(sw, text, table, kind, children) {
-        Duplicate::At(place) => Refusal {
-            number: DUPLICATE_KEY,
+        Some(place) => Refusal {
+            reason: Reason::DuplicateKey,
             place,
         },
-        Duplicate::Nowhere => refusal,
+        None => refusal,
     }
 }
 
@@ -76,15 +77,15 @@ pub(crate) fn late_after(
 ) -> Refusal
     requires keys { Keys sw text.now kind table.now children }
     requires key_in { KeyIn sw text.now kind key }
-    ensures { RefusedLateAfter sw text.now kind table.now children key refusal result }
+    ensures { RefusedLateAfter sw text.now kind table.now children key (told_by refusal) (told_by result) }
 {
     match kind {
         Kind::Object => match find_duplicate(sw, text, table, kind, children) {
-            Duplicate::At(place) => Refusal {
-                number: DUPLICATE_KEY,
+            Some(place) => Refusal {
+                reason: Reason::DuplicateKey,
                 place,
             },
-            Duplicate::Nowhere => key_refusal(sw, text, table, children, key, refusal),
+            None => key_refusal(sw, text, table, children, key, refusal),
         },
         Kind::Array => refusal,
         Kind::Tuple => refusal,

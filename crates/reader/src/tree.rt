@@ -85,5 +85,4 @@ pub enum Begin {
     Container(Kind),
     Scalar(Words),
     Identifier,
-    Nothing,
 }

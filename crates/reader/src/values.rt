@@ -1,5 +1,6 @@
 // Values, containers and identifiers: readers that call each other in a cycle; the bytes left in the text fall.
 ghost use Rattle.std.specs.Prelude.{◌≡◌, true, ◌≤◌, ◌<◌, length};
+ghost use Rattle.text.specs.Refusal.{told};
 ghost use Rattle.reader.specs.Reading.{max_text};
 ghost use Rattle.reader.specs.Syntax.{container, identifier};
 ghost use Rattle.reader.specs.Internal.Tokens.{IsToken, begins_at};
@@ -17,27 +18,27 @@ ghost use Rattle.reader.specs.Internal.Values.{
   Placed,
   is_full,
   opening_refusal,
+  number_or_0,
   ReadAs,
   Keys,
   BranchEnded,
 };
 
 use super::begin::begin_of;
-use super::duplicates::Duplicate;
-use super::items::{Ahead, Item, Only, next_child, one_mark, token_after};
+use super::items::{Item, next_child, one_mark, token_after};
 use super::late::{find_duplicate, late_after, late_refusal};
 use super::rows::{kind_word, put_row, put_stop};
 use super::tree::{Begin, Children, Due, Kind, Label, Limits, Rules, SpanWords, Spot, Words};
 use lexer::item::Token;
-use text::refusal::{DUPLICATE_KEY, NO_NODE_LEFT, Refusal, TOO_DEEP, UNEXPECTED};
+use text::refusal::{Reason, Refusal};
 use text::span::Span;
 use text::switches::Switches;
 
-// A value was read: the place after it, and the number of nodes then; or a refusal.
+// How far the reading has come with a value: the place after it, and the number of nodes then.
 #[derive(Clone, Copy)]
-pub enum Progress {
-    Done(usize, usize),
-    Refused(Refusal),
+pub struct Progress {
+    pub stop: usize,
+    pub next: usize,
 }
 
 // ---- what is due
@@ -126,42 +127,51 @@ fn no_children(first: usize) -> Children
     }
 }
 
-// The number by which a container that is due is refused where it opens, or 0.
-fn opening_refusal(limits: Limits, due: Due) -> u8
-    ensures { result ≡ opening_refusal limits due }
+// Why a container that is due is refused where it opens, if it is.
+fn opening_refusal(limits: Limits, due: Due) -> Option<Reason>
+    ensures { number_or_0 result ≡ opening_refusal limits due }
 {
     if limits.depth <= due.spot.depth {
-        return TOO_DEEP;
+        return Some(Reason::TooDeep);
     }
     if is_full(limits, due) {
-        return NO_NODE_LEFT;
+        return Some(Reason::NoNodeLeft);
     }
-    0
+    None
 }
 
 // ---- rows
 
 // A value that holds no others, with its own words.
-fn put_leaf(limits: Limits, table: &mut [u32], due: Due, span: Span, words: Words) -> Progress
+fn put_leaf(
+    limits: Limits,
+    table: &mut [u32],
+    due: Due,
+    span: Span,
+    words: Words,
+) -> Result<Progress, Refusal>
     requires ready { Ready limits table.old due }
     requires stop_le_max_text { span.stop ≤ max_text }
-    ensures value { result ≡ leaf_progress limits due span }
+    ensures value { told result ≡ leaf_progress limits due span }
     ensures table_after { table.new ≡ leaf_table limits due span words table.old }
 {
     let place = span.start;
     if due.any {
         if is_full(limits, due) {
-            return Progress::Refused(Refusal {
-                number: NO_NODE_LEFT,
+            return Err(Refusal {
+                reason: Reason::NoNodeLeft,
                 place,
             });
         }
         let next = due.spot.node + 1;
         put_row(table, due, words, span.stop, next);
-        return Progress::Done(span.stop, next);
+        return Ok(Progress {
+            stop: span.stop,
+            next,
+        });
     }
-    Progress::Refused(Refusal {
-        number: UNEXPECTED,
+    Err(Refusal {
+        reason: Reason::Unexpected,
         place,
     })
 }
@@ -175,18 +185,18 @@ fn put_branch(
     kind: Kind,
     children: Children,
     stop: usize,
-) -> Progress
+) -> Result<Progress, Refusal>
     requires keys { Keys sw text.now kind table.old children }
     requires row_room { RowRoom table.old due stop children.next }
     requires count_le_next { children.count ≤ children.next }
-    ensures { BranchEnded sw text.now due kind children stop table.old table.new result }
+    ensures { BranchEnded sw text.now due kind children stop table.old table.new (told result) }
 {
     match find_duplicate(sw, text, table, kind, children) {
-        Duplicate::At(place) => Progress::Refused(Refusal {
-            number: DUPLICATE_KEY,
+        Some(place) => Err(Refusal {
+            reason: Reason::DuplicateKey,
             place,
         }),
-        Duplicate::Nowhere => {
+        None => {
             let words = Words {
                 kind: kind_word(kind),
                 low: children.count as u32,
@@ -194,7 +204,10 @@ fn put_branch(
                 extra: 0,
             };
             put_row(table, due, words, stop, children.next);
-            Progress::Done(stop, children.next)
+            Ok(Progress {
+                stop,
+                next: children.next,
+            })
         }
     }
 }
@@ -209,19 +222,19 @@ pub(crate) fn read_value(
     table: &mut [u32],
     due: Due,
     token: Token,
-) -> Progress
+) -> Result<Progress, Refusal>
     requires ready { Ready rules.limits table.old due }
     requires token { IsToken rules.sw text.now token }
     requires text_len_bound { length text.now ≤ max_text }
-    ensures { ReadAs rules text.now due token.span (begins_at rules.sw text.now token.span) table.old table.new result }
+    ensures { ReadAs rules text.now due token.span (begins_at rules.sw text.now token.span) table.old table.new (told result) }
 {
     let place = token.span.start;
     match begin_of(text, token) {
-        Begin::Container(kind) => read_container(rules, text, table, due, kind, token.span),
-        Begin::Scalar(words) => put_leaf(rules.limits, table, due, token.span, words),
-        Begin::Identifier => read_identifier(rules, text, table, due, token.span),
-        Begin::Nothing => Progress::Refused(Refusal {
-            number: UNEXPECTED,
+        Some(Begin::Container(kind)) => read_container(rules, text, table, due, kind, token.span),
+        Some(Begin::Scalar(words)) => put_leaf(rules.limits, table, due, token.span, words),
+        Some(Begin::Identifier) => read_identifier(rules, text, table, due, token.span),
+        None => Err(Refusal {
+            reason: Reason::Unexpected,
             place,
         }),
     }
@@ -237,15 +250,14 @@ fn read_container(
     due: Due,
     kind: Kind,
     bracket: Span,
-) -> Progress
+) -> Result<Progress, Refusal>
     requires ready { Ready rules.limits table.old due }
     requires placed { Placed text.now bracket }
-    ensures { ReadAs rules text.now due bracket (container kind) table.old table.new result }
+    ensures { ReadAs rules text.now due bracket (container kind) table.old table.new (told result) }
 {
     let place = bracket.start;
-    let number = opening_refusal(rules.limits, due);
-    if number != 0 {
-        return Progress::Refused(Refusal { number, place });
+    if let Some(reason) = opening_refusal(rules.limits, due) {
+        return Err(Refusal { reason, place });
     }
     let spot = due.spot;
     let mut from = bracket.stop;
@@ -255,21 +267,21 @@ fn read_container(
         match item {
             Item::Refused(refusal) => {
                 let late = late_refusal(rules.sw, text, table, kind, children, refusal);
-                return Progress::Refused(late);
+                return Err(late);
             }
             Item::RefusedAfter { key, refusal } => {
                 let late = late_after(rules.sw, text, table, kind, children, key, refusal);
-                return Progress::Refused(late);
+                return Err(late);
             }
             Item::Last(end) => return put_branch(rules.sw, text, table, due, kind, children, end),
             Item::Value { token, key } => {
                 let child = child_due(spot, children.next, token.span.start, key);
                 match read_value(rules, text, table, child, token) {
-                    Progress::Refused(refusal) => {
+                    Err(refusal) => {
                         let late = late_after(rules.sw, text, table, kind, children, key, refusal);
-                        return Progress::Refused(late);
+                        return Err(late);
                     }
-                    Progress::Done(stop, next) => {
+                    Ok(Progress { stop, next }) => {
                         children.next = next;
                         children.count += 1;
                         from = stop;
@@ -283,34 +295,44 @@ fn read_container(
 
 // The identifier with this name, and the value in its bracket.
 #[cycle(value)]
-fn read_identifier(rules: Rules, text: &[u8], table: &mut [u32], due: Due, name: Span) -> Progress
+fn read_identifier(
+    rules: Rules,
+    text: &[u8],
+    table: &mut [u32],
+    due: Due,
+    name: Span,
+) -> Result<Progress, Refusal>
     requires ready { Ready rules.limits table.old due }
     requires placed { Placed text.now name }
-    ensures { ReadAs rules text.now due name identifier table.old table.new result }
+    ensures { ReadAs rules text.now due name identifier table.old table.new (told result) }
 {
     let place = name.start;
     if !due.fresh {
-        return Progress::Refused(Refusal {
-            number: UNEXPECTED,
+        return Err(Refusal {
+            reason: Reason::Unexpected,
             place,
         });
     }
     if rules.limits.nodes <= due.spot.node {
-        return Progress::Refused(Refusal {
-            number: NO_NODE_LEFT,
+        return Err(Refusal {
+            reason: Reason::NoNodeLeft,
             place,
         });
     }
     let inner = named_due(due, name);
+    // kept: with `?` each level of the cycle takes 48 bytes more of the stack, and a reading at the greatest depth passes 64 KiB.
     match token_after(rules.sw, text, name.stop, b'(') {
-        Ahead::Refused(refusal) => Progress::Refused(refusal),
-        Ahead::Token(token) => match read_value(rules, text, table, inner, token) {
-            Progress::Refused(refusal) => Progress::Refused(refusal),
-            Progress::Done(stop, next) => match one_mark(rules.sw, text, stop, b')') {
-                Only::Refused(refusal) => Progress::Refused(refusal),
-                Only::At(end) => {
-                    put_stop(table, due.spot.node, end as u32);
-                    Progress::Done(end, next)
+        Err(refusal) => Err(refusal),
+        Ok(token) => match read_value(rules, text, table, inner, token) {
+            Err(refusal) => Err(refusal),
+            Ok(progress) => match one_mark(rules.sw, text, progress.stop, b')') {
+                Err(refusal) => Err(refusal),
+                Ok(stop) => {
+                    put_stop(table, due.spot.node, stop as u32);
+                    Ok(Progress {
+                        stop,
+                        next: progress.next,
+                    })
                 }
             },
         },

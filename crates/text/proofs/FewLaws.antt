@@ -1,6 +1,5 @@
 -- Laws of up to four bytes, and how far the UTF-8 machine can have counted.
 -- Assumes nothing.
-use mathlib.Core.Path.{◌≡◌}
 use Prim.Native.Nat.{ℕ, zero, suc, ◌+◌, ◌≤◌}
 use native.Mathlib.Omega.{arith}
 use mathlib.Core.List.{List, [], ◌∷◌}
@@ -45,9 +44,6 @@ read_step (Part n read more low high) b =
     cond_both (Below (n + read + 1)) (ltb b low) (λ _. omega arith)
     (λ _. cond_both (Below (n + read + 1)) (leb b high) (λ _. later_read n read more) (λ _. omega arith))
 read_step (Broken n) b = omega arith
-
-pub read_next : (u v : Utf8) (b : ℕ) → v ≡ utf8_step u b → bytes_read v ≤ bytes_read u + 1
-read_next u v b e = rw e (read_step u b)
 
 pub read_feed : (u : Utf8) (xs : List ℕ) → bytes_read (feed utf8_step u xs) ≤ bytes_read u + length xs
 unfolding feed

@@ -7,7 +7,7 @@ use native.Mathlib.Numerals.{add-one}
 use native.Mathlib.Omega.{arith}
 use mathlib.Core.List.{List, [], ◌∷◌, ◌++◌}
 use lib.ListN.{length, take, drop, get_or, set, replicate, length-set, length-append, length-drop}
-use lib.Seq.{sets, sets-eq, set_comm, get_or-set_same, get_or-set_other, drop-cons, take-take, take_at, drop_at, length-take-le}
+use lib.Seq.{sets, sets-eq, set_comm, get_or-set_same, get_or-set_other, drop-cons, take-length, take-take, take_at, drop_at, length-take-le}
 
 -- ---- a list by its places
 
@@ -46,6 +46,10 @@ part_of_front (suc s) k (suc u) (x ∷ t) h = part_of_front s k u t (omega arith
 -- a part from `s` to before `e` has so many numbers
 pub length_part : (s e : ℕ) (t : List ℕ) → s ≤ e → e ≤ length t → length (take (e - s) (drop s t)) ≡ e - s
 length_part s e t h k = let d = length-drop s t in length-take-le (e - s) (drop s t) (omega arith)
+
+-- the part from `s` to the end
+pub part_to_end : (t : List ℕ) (s : ℕ) → take (length t - s) (drop s t) ≡ drop s t
+part_to_end t s = rw (← length-drop s t, take-length)
 
 pub take_at_most : (n : ℕ) (s : List ℕ) → length (take n s) ≤ length s
 take_at_most zero s = zero-le

@@ -1,8 +1,8 @@
 -- UTF-8: how many bytes the machine has read, so that its counts cannot wrap; that a text is UTF-8 exactly if its longest valid front is
 -- the whole text; and what one byte more does to that front.
 -- Assumes nothing.
-use mathlib.Core.Path.{◌≡◌, refl, ap}
-use Prim.Native.Nat.{ℕ, zero, suc, ◌+◌, ◌-◌, ◌<◌, ◌≤◌}
+use mathlib.Core.Path.{◌≡◌, refl}
+use Prim.Native.Nat.{ℕ, zero, suc, ◌+◌, ◌<◌, ◌≤◌}
 use native.Mathlib.Numerals.{add-one}
 use native.Mathlib.Omega.{arith}
 use mathlib.Core.Bool.{true, false, true≢false, false≢true}
@@ -32,17 +32,6 @@ lead_case P n b whole broken part =
     (λ _. cond_both P (leb b 0xF3) (λ _. part 2 0x80 0xBF (omega arith))
     (λ _. cond_both P (eqb b 0xF4) (λ _. part 2 0x80 0x8F (omega arith))
     (λ _. broken))))))))))
-
--- the two cases of `later`
-pub later_last : (n read more : ℕ) → more ≡ 0 → Whole (n + read + 1) ≡ later n read more
-unfolding later
-later_last n read zero e = refl
-later_last n read (suc more) e = absurd (omega arith)
-
-pub later_more : (n read more : ℕ) → 0 < more → Part n (read + 1) (more - 1) 0x80 0xBF ≡ later n read more
-unfolding later
-later_more n read zero h = absurd (omega arith)
-later_more n read (suc more) h = let e : suc more - 1 ≡ more = omega arith in ap (λ (m : ℕ). Part n (read + 1) m 0x80 0xBF) e
 
 -- the state after k bytes
 unfoldable pub After : (k : ℕ) → Utf8 → Type 0

@@ -1,5 +1,5 @@
 // Bytes: the one at a place, the class of one, its value as a digit; and two slices against each other.
-ghost use Rattle.std.specs.Prelude.{◌≡◌, get_or};
+ghost use Rattle.std.specs.Prelude.{◌≡◌, ◌<◌, get_or, MatchOption};
 ghost use Rattle.text.specs.Bytes.{class_of, class_number, digit_value, same_bytes};
 ghost use Rattle.text.specs.Internal.{ClassTable};
 
@@ -7,10 +7,7 @@ ghost use Rattle.text.specs.Internal.{ClassTable};
 pub fn byte_at(s: &[u8], i: usize) -> u8
     ensures { result ≡ get_or s.now i 0 }
 {
-    if i < s.len() {
-        return s[i];
-    }
-    0
+    s.get(i).copied().unwrap_or(0)
 }
 
 // The classes by number. Letters, digits and joiners, the bytes of a word, are 1 to 4.
@@ -65,47 +62,23 @@ pub fn class_of(classes: &[u8; 256], b: u8) -> u8
     classes[b as usize]
 }
 
-// What is answered for a byte that is no digit: above every digit's value, as bases go up to 16.
-const NO_DIGIT: u8 = 16;
-
-// The value of a digit in a base up to 16, hex digits in either case; 16 for any other byte.
-pub fn digit_value(b: u8) -> u8
-    ensures { result ≡ digit_value b }
+// The value of a digit in a base up to 16, hex digits in either case.
+#[tactic(auto, unfolding(crate::specs::Bytes::digit_value))]
+pub fn digit_value(b: u8) -> Option<u8>
+    ensures { MatchOption result (digit_value b ≡ 16) (λ d. (d ≡ digit_value b) × (d < 16)) }
 {
-    if b < b'0' {
-        return NO_DIGIT;
+    match b {
+        b'0'..=b'9' => Some(b - b'0'),
+        b'A'..=b'F' => Some(b - b'A' + 10),
+        b'a'..=b'f' => Some(b - b'a' + 10),
+        _ => None,
     }
-    if b <= b'9' {
-        return b - b'0';
-    }
-    if b < b'A' {
-        return NO_DIGIT;
-    }
-    if b <= b'F' {
-        return b - b'A' + 10;
-    }
-    if b < b'a' {
-        return NO_DIGIT;
-    }
-    if b <= b'f' {
-        return b - b'a' + 10;
-    }
-    NO_DIGIT
 }
 
-// Whether two slices hold the same bytes. They are compared from their ends, as names in one place often begin alike.
+// Whether two slices hold the same bytes.
+#[tactic(auto, using(crate::proofs::SameLaws::same_pointwise))]
 pub fn same_bytes(a: &[u8], b: &[u8]) -> bool
     ensures { result ≡ same_bytes a.now b.now }
 {
-    if a.len() != b.len() {
-        return false;
-    }
-    let mut i = a.len();
-    while 0 < i {
-        i -= 1;
-        if a[i] != b[i] {
-            return false;
-        }
-    }
-    true
+    a == b
 }

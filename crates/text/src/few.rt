@@ -1,11 +1,11 @@
 // Up to four bytes by value: counted, fed to the UTF-8 machine, put into an output.
-ghost use Rattle.std.specs.Prelude.{◌≡◌, cond, ◌≤◌, ◌<◌, ◌+◌, length};
+ghost use Rattle.std.specs.Prelude.{◌≡◌, cond, ◌≤◌, ◌<◌, ◌+◌, [], ◌∷◌, length, MatchOption};
 ghost use Rattle.std.proofs.lemmas.List.Edits.{sets};
 ghost use Rattle.text.specs.Bytes.{feed};
 ghost use Rattle.text.specs.Utf8.{utf8_step, listed};
 ghost use Rattle.text.specs.Internal.{bytes_read};
 
-use crate::utf8::{Utf8, utf8_step};
+use crate::utf8::Utf8;
 
 // Up to four bytes: those of a character, or those that a step of a decoder gives.
 #[derive(Clone, Copy)]
@@ -17,42 +17,77 @@ pub enum Few {
     Four(u8, u8, u8, u8),
 }
 
-// How many bytes these are.
-pub fn few_len(f: Few) -> usize
-    ensures { result ≡ length (listed f) }
-{
-    match f {
-        Few::Zero => 0,
-        Few::One(_) => 1,
-        Few::Two(_, _) => 2,
-        Few::Three(_, _, _) => 3,
-        Few::Four(_, _, _, _) => 4,
+impl Few {
+    // How many bytes these are.
+    #[tactic(auto, unfolding(crate::specs::Utf8::listed))]
+    pub fn len(self) -> usize
+        ensures { result ≡ length (listed self) }
+    {
+        match self {
+            Few::Zero => 0,
+            Few::One(..) => 1,
+            Few::Two(..) => 2,
+            Few::Three(..) => 3,
+            Few::Four(..) => 4,
+        }
+    }
+
+    // The first byte and those after it.
+    #[tactic(auto, unfolding(crate::specs::Utf8::listed))]
+    pub fn split_first(self) -> Option<(u8, Few)>
+        ensures { MatchOption result (listed self ≡ []) (λ p. listed self ≡ p.0 ∷ listed p.1) }
+    {
+        match self {
+            Few::Zero => None,
+            Few::One(a) => Some((a, Few::Zero)),
+            Few::Two(a, b) => Some((a, Few::One(b))),
+            Few::Three(a, b, d) => Some((a, Few::Two(b, d))),
+            Few::Four(a, b, d, e) => Some((a, Few::Three(b, d, e))),
+        }
+    }
+
+    // Puts the bytes into the output from k on.
+    #[tactic(auto, unfolding(crate::specs::Utf8::listed))]
+    pub fn put(self, out: &mut [u8], k: usize)
+        requires { k + length (listed self) ≤ length out.old }
+        ensures { out.new ≡ sets out.old k (listed self) }
+    {
+        match self {
+            Few::Zero => {}
+            Few::One(a) => {
+                out[k] = a;
+            }
+            Few::Two(a, b) => {
+                out[k] = a;
+                out[k + 1] = b;
+            }
+            Few::Three(a, b, d) => {
+                out[k] = a;
+                out[k + 1] = b;
+                out[k + 2] = d;
+            }
+            Few::Four(a, b, d, e) => {
+                out[k] = a;
+                out[k + 1] = b;
+                out[k + 2] = d;
+                out[k + 3] = e;
+            }
+        }
     }
 }
 
 // The machine after the bytes.
+#[tactic(auto, using(crate::proofs::FewLaws::read_step), unfolding(crate::specs::Utf8::listed, crate::specs::Bytes::feed))]
 fn feed_few(u: Utf8, f: Few) -> Utf8
     requires { bytes_read u + 4 < 18446744073709551615 }
     ensures { result ≡ feed utf8_step u (listed f) }
 {
     match f {
         Few::Zero => u,
-        Few::One(a) => utf8_step(u, a),
-        Few::Two(a, b) => {
-            let one = utf8_step(u, a);
-            utf8_step(one, b)
-        }
-        Few::Three(a, b, d) => {
-            let one = utf8_step(u, a);
-            let two = utf8_step(one, b);
-            utf8_step(two, d)
-        }
-        Few::Four(a, b, d, e) => {
-            let one = utf8_step(u, a);
-            let two = utf8_step(one, b);
-            let three = utf8_step(two, d);
-            utf8_step(three, e)
-        }
+        Few::One(a) => u.step(a),
+        Few::Two(a, b) => u.step(a).step(b),
+        Few::Three(a, b, d) => u.step(a).step(b).step(d),
+        Few::Four(a, b, d, e) => u.step(a).step(b).step(d).step(e),
     }
 }
 
@@ -61,36 +96,5 @@ pub fn feed_text(text: bool, u: Utf8, f: Few) -> Utf8
     requires { bytes_read u + 4 < 18446744073709551615 }
     ensures { result ≡ cond text (feed utf8_step u (listed f)) u }
 {
-    if text {
-        return feed_few(u, f);
-    }
-    u
-}
-
-// Puts the bytes into the output from k on.
-pub fn put_few(out: &mut [u8], k: usize, f: Few)
-    requires { k + length (listed f) ≤ length out.old }
-    ensures { out.new ≡ sets out.old k (listed f) }
-{
-    match f {
-        Few::Zero => {}
-        Few::One(a) => {
-            out[k] = a;
-        }
-        Few::Two(a, b) => {
-            out[k] = a;
-            out[k + 1] = b;
-        }
-        Few::Three(a, b, d) => {
-            out[k] = a;
-            out[k + 1] = b;
-            out[k + 2] = d;
-        }
-        Few::Four(a, b, d, e) => {
-            out[k] = a;
-            out[k + 1] = b;
-            out[k + 2] = d;
-            out[k + 3] = e;
-        }
-    }
+    if text { feed_few(u, f) } else { u }
 }

@@ -5,6 +5,7 @@ pub mod buffers;
 pub mod bytes;
 pub mod few;
 pub mod refusal;
+pub mod runs;
 pub mod span;
 pub mod switches;
 pub mod utf8;

@@ -22,10 +22,12 @@ pub enum Utf8 {
 }
 
 // The machine after a character's first byte.
+#[tactic(auto, unfolding(crate::specs::Utf8::lead))]
 fn first_byte(n: usize, b: u8) -> Utf8
     requires { n < 18446744073709551615 }
     ensures { result ≡ lead n b }
 {
+    // kept: tests in a row, as the check of text that is not ASCII was slower with matches by ranges here and in `step`
     if b <= 0x7f {
         return Utf8::Whole(n + 1);
     }
@@ -73,96 +75,76 @@ fn begun(n: usize, more: usize, low: u8, high: u8) -> Utf8
 }
 
 // The machine after a later byte of a character, one that may stand there.
+#[tactic(auto, unfolding(crate::specs::Utf8::later))]
 fn later_byte(n: usize, read: usize, more: usize) -> Utf8
     requires { n + read < 18446744073709551615 }
     ensures { result ≡ later n read more }
 {
     if more == 0 {
-        return Utf8::Whole(n + read + 1);
-    }
-    Utf8::Part {
-        n,
-        read: read + 1,
-        more: more - 1,
-        low: 0x80,
-        high: 0xbf,
-    }
-}
-
-// The machine after one byte more.
-pub(crate) fn utf8_step(u: Utf8, b: u8) -> Utf8
-    requires { bytes_read u < 18446744073709551615 }
-    ensures { result ≡ utf8_step u b }
-{
-    match u {
-        Utf8::Whole(n) => first_byte(n, b),
+        Utf8::Whole(n + read + 1)
+    } else {
         Utf8::Part {
             n,
-            read,
-            more,
-            low,
-            high,
-        } => {
-            if b < low {
-                return Utf8::Broken(n);
-            }
-            if b <= high {
-                return later_byte(n, read, more);
-            }
-            Utf8::Broken(n)
+            read: read + 1,
+            more: more - 1,
+            low: 0x80,
+            high: 0xbf,
         }
-        Utf8::Broken(n) => Utf8::Broken(n),
     }
 }
 
-// The length of the longest front of whole characters.
-fn front_of(u: Utf8) -> usize
-    ensures { result ≡ whole_front u }
-{
-    match u {
-        Utf8::Whole(n) => n,
-        Utf8::Part {
-            n,
-            read: _,
-            more: _,
-            low: _,
-            high: _,
-        } => n,
-        Utf8::Broken(n) => n,
+impl Utf8 {
+    // The machine after one byte more.
+    #[tactic(auto, unfolding(crate::specs::Utf8::utf8_step, crate::specs::Internal::bytes_read))]
+    pub(crate) fn step(self, b: u8) -> Utf8
+        requires { bytes_read self < 18446744073709551615 }
+        ensures { result ≡ utf8_step self b }
+    {
+        match self {
+            Utf8::Whole(n) => first_byte(n, b),
+            Utf8::Part {
+                n,
+                read,
+                more,
+                low,
+                high,
+            } => {
+                if b < low {
+                    return Utf8::Broken(n);
+                }
+                if b <= high {
+                    return later_byte(n, read, more);
+                }
+                Utf8::Broken(n)
+            }
+            Utf8::Broken(n) => Utf8::Broken(n),
+        }
     }
-}
 
-// Whether the machine stands between characters.
-pub fn is_whole(u: Utf8) -> bool
-    ensures { result ≡ is_whole u }
-{
-    match u {
-        Utf8::Whole(_) => true,
-        Utf8::Part {
-            n: _,
-            read: _,
-            more: _,
-            low: _,
-            high: _,
-        } => false,
-        Utf8::Broken(_) => false,
+    // The length of the longest front of whole characters.
+    #[tactic(auto, unfolding(crate::specs::Utf8::whole_front))]
+    fn front(self) -> usize
+        ensures { result ≡ whole_front self }
+    {
+        match self {
+            Utf8::Whole(n) | Utf8::Part { n, .. } | Utf8::Broken(n) => n,
+        }
     }
-}
 
-// Whether the machine is inside a character.
-fn is_part(u: Utf8) -> bool
-    ensures { result ≡ is_part u }
-{
-    match u {
-        Utf8::Whole(_) => false,
-        Utf8::Part {
-            n: _,
-            read: _,
-            more: _,
-            low: _,
-            high: _,
-        } => true,
-        Utf8::Broken(_) => false,
+    // Whether the machine stands between characters.
+    #[tactic(auto, unfolding(crate::specs::Utf8::is_whole))]
+    pub fn is_whole(self) -> bool
+        ensures { result ≡ is_whole self }
+    {
+        matches!(self, Utf8::Whole(_))
+    }
+
+    // Whether the machine is inside a character.
+    #[tactic(auto, unfolding(crate::specs::Internal::is_part))]
+    fn is_part(self) -> bool
+        ensures { result ≡ is_part self }
+    {
+        matches!(self, Utf8::Part { .. })
     }
 }
 
@@ -172,15 +154,13 @@ fn character_end(s: &[u8], i: usize) -> usize
     ensures { result ≡ character_end (lead i (get_or s.now i 0)) (drop (i + 1) s.now) }
 {
     let mut u = first_byte(i, s[i]);
-    let mut j = i + 1;
-    while j < s.len() {
-        if !is_part(u) {
-            return front_of(u);
+    for b in &s[i + 1..] {
+        if !u.is_part() {
+            break;
         }
-        u = utf8_step(u, s[j]);
-        j += 1;
+        u = u.step(*b);
     }
-    front_of(u)
+    u.front()
 }
 
 // Whether eight bytes stand at i that are all below 80 hex: exactly then the eight or-ed together are, so that one comparison tells.
@@ -231,36 +211,25 @@ pub fn valid_front(s: &[u8]) -> usize
     check_utf8(s).front
 }
 
-// A byte from a number that is below 256.
-fn octet(x: u32) -> u8
-    requires { x < 256 }
-    ensures { result ≡ x }
-{
-    x as u8
-}
-
 // The UTF-8 of a scalar value. Public for the crates above, which ask it of scalar values only.
+#[tactic(auto, unfolding(crate::specs::Utf8::encode))]
 pub fn utf8_of(v: u32) -> Few
     requires { v < 0x110000 }
     ensures { result ≡ encode v }
 {
-    if v <= 0x7f {
-        return Few::One(octet(v));
+    match v {
+        0x00..=0x7f => Few::One(v as u8),
+        0x80..=0x7ff => Few::Two((0xc0 + v / 0x40) as u8, (0x80 + v % 0x40) as u8),
+        0x800..=0xffff => Few::Three(
+            (0xe0 + v / 0x1000) as u8,
+            (0x80 + v / 0x40 % 0x40) as u8,
+            (0x80 + v % 0x40) as u8,
+        ),
+        _ => Few::Four(
+            (0xf0 + v / 0x40000) as u8,
+            (0x80 + v / 0x1000 % 0x40) as u8,
+            (0x80 + v / 0x40 % 0x40) as u8,
+            (0x80 + v % 0x40) as u8,
+        ),
     }
-    if v <= 0x7ff {
-        return Few::Two(octet(0xc0 + v / 0x40), octet(0x80 + v % 0x40));
-    }
-    if v <= 0xffff {
-        return Few::Three(
-            octet(0xe0 + v / 0x1000),
-            octet(0x80 + v / 0x40 % 0x40),
-            octet(0x80 + v % 0x40),
-        );
-    }
-    Few::Four(
-        octet(0xf0 + v / 0x40000),
-        octet(0x80 + v / 0x1000 % 0x40),
-        octet(0x80 + v / 0x40 % 0x40),
-        octet(0x80 + v % 0x40),
-    )
 }

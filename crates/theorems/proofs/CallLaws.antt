@@ -1,5 +1,6 @@
 -- Req 07 for calls that keep their contracts.
 -- Assumes nothing.
+use Rattle.std.specs.Prelude.{Ok}
 use mathlib.Core.Path.{◌≡◌, refl, sym, ap, ◌∙◌, subst}
 use Prim.Native.Nat.{ℕ, ◌<◌}
 use native.Mathlib.Omega.{arith}
@@ -7,7 +8,6 @@ use mathlib.Core.Bool.{true}
 use mathlib.Core.List.{List}
 use Rattle.text.specs.declared.switches.Switches.{Switches}
 use Rattle.text.specs.Switches.{present_edition}
-use Rattle.reader.specs.declared.read.Reading.TheVariants as R
 use Rattle.reader.specs.Syntax.{Outcome, taken, refused}
 use Rattle.reader.specs.Reading.{reading, reads, is_taken, node_count, table_of, answer_of}
 use Rattle.reader.proofs.NumberBound.{NumberWithin, number_law}
@@ -21,7 +21,7 @@ use Rattle.theorems.proofs.Nesting.NestedLaw.{nested_law}
 
 -- ---- answers of texts that are taken
 
-taken_told : (o : Outcome) → is_taken o ≡ true → answer_of o ≡ R.Taken (node_count o)
+taken_told : (o : Outcome) → is_taken o ≡ true → answer_of o ≡ Ok (node_count o)
 unfolding answer_of is_taken node_count
 taken_told (taken t) e = refl
 taken_told (refused k p) e = cc
@@ -62,7 +62,7 @@ comments_law_of_code sw words text added a b nodes e m l =
     let told = sym a.answer_is ∙ e in
     let n = taken_nodes (reading sw words text) nodes told in
     let k = comments_law sw words text added (taken_is (reading sw words text) nodes told) m l in (
-      b.answer_is ∙ taken_told (reading sw words (with_gaps added text)) k.still ∙ ap R.Taken (k.as_many ∙ sym n),
+      b.answer_is ∙ taken_told (reading sw words (with_gaps added text)) k.still ∙ ap Ok (k.as_many ∙ sym n),
       data_of sw words text added nodes a.table b.table k n a.table_is b.table_is,
     )
 

@@ -1,11 +1,11 @@
 -- Req 07 for calls that were made, by what their contracts promise: the code's own `read_edition` (reader/src/read.rt), of which `read` is the
 -- one of the present edition, and `duper_read` (duper/src/lib.rt) for C and Rust.
 -- Assumes nothing.
-use Rattle.std.specs.Prelude.{◌≡◌, ℕ, ◌≤◌, ◌<◌, true, List, length}
+use Rattle.std.specs.Prelude.{◌≡◌, ℕ, ◌≤◌, ◌<◌, true, List, length, Ok}
 use Rattle.text.specs.declared.switches.Switches.{Switches}
 use Rattle.text.specs.Switches.{present_edition}
-use Rattle.reader.specs.declared.read.Reading.{Reading}
-use Rattle.reader.specs.declared.read.Reading.TheVariants as R
+use Rattle.std.specs.declared.result.Result.{Result}
+use Rattle.text.specs.Refusal.{Refusal}
 use Rattle.reader.specs.Reading.{reading, answer_of, table_of, max_text}
 use Rattle.duper.specs.Numbers.{read_number}
 use Rattle.theorems.specs.Insertion.{Insertion, may_insert, inserted_at, with_gaps, SameData}
@@ -15,7 +15,7 @@ use Rattle.theorems.specs.Nesting.{InParent}
 
 -- a call of `read_edition` with a table of so many words: what it answered, and all that the table then held
 pub record ReadCall (sw : Switches) (words : ℕ) (text : List ℕ) : Type 0 where
-  pub answer : Reading
+  pub answer : Result ℕ Refusal
   pub table : List ℕ
   pub answer_is : answer ≡ answer_of (reading sw words text)
   pub table_is : table ≡ table_of words (reading sw words text)
@@ -25,13 +25,13 @@ pub record ReadCall (sw : Switches) (words : ℕ) (text : List ℕ) : Type 0 whe
 unfoldable pub CommentsKeptOfCode : Type 0
 CommentsKeptOfCode =
     (sw : Switches) (words : ℕ) (text : List ℕ) (added : List Insertion) (a : ReadCall sw words text) (b : ReadCall sw words (with_gaps added text)) (nodes : ℕ)
-    → a.answer ≡ R.Taken nodes → may_insert sw text added ≡ true → length (with_gaps added text) ≤ max_text
-    → (b.answer ≡ R.Taken nodes) × SameData (inserted_at added) nodes a.table b.table
+    → a.answer ≡ Ok nodes → may_insert sw text added ≡ true → length (with_gaps added text) ≤ max_text
+    → (b.answer ≡ Ok nodes) × SameData (inserted_at added) nodes a.table b.table
 
 -- in the table that a call leaves every node's span lies inside its parent's
 unfoldable pub NestedOfCode : Type 0
 NestedOfCode =
-    (sw : Switches) (words : ℕ) (text : List ℕ) (a : ReadCall sw words text) (nodes node : ℕ) → a.answer ≡ R.Taken nodes → 0 < node → node < nodes
+    (sw : Switches) (words : ℕ) (text : List ℕ) (a : ReadCall sw words text) (nodes node : ℕ) → a.answer ≡ Ok nodes → 0 < node → node < nodes
     → InParent a.table node
 
 -- ---- the calls for C and Rust

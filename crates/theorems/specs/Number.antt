@@ -10,8 +10,10 @@ use Prim.Native.Char.{code}
 use Prim.Native.String.{String}
 use Rattle.text.specs.Switches.{present_edition}
 use Rattle.text.specs.Bytes.{ascii, is, between, is_digit_in, digit_value}
-use Rattle.literals.specs.declared.number.Meaning.{Meaning}
-use Rattle.literals.specs.declared.number.Meaning.TheVariants.{Integer, Decimal, Malformed, TooWide}
+use Rattle.literals.specs.Number.{Meaning}
+use Rattle.std.specs.declared.result.Result.TheVariants.{Ok, Err}
+use Rattle.literals.specs.declared.number.NumberValue.TheVariants.{Integer, Decimal}
+use Rattle.literals.specs.declared.number.NumberError.TheVariants.{Malformed, TooWide}
 use Rattle.literals.specs.Number.{is_sign, is_e, signed_by, as_integer, as_decimal, number}
 use Rattle.reader.specs.Syntax.{Outcome, refused}
 use Rattle.reader.specs.Reading.{reading, table_of}
@@ -94,7 +96,7 @@ pub data Numeral : (s : List ℕ) (x : Meaning) → Type 0 where
 -- these bytes, read as a number token, mean what the grammar says; where it has no such number, they are malformed
 pub record ByTheGrammar (s : List ℕ) : Type 0 where
   pub means : (x : Meaning) → Numeral s x → number s ≡ x
-  pub malformed : ((x : Meaning) → Numeral s x → ⊥) → number s ≡ Malformed
+  pub malformed : ((x : Meaning) → Numeral s x → ⊥) → number s ≡ Err Malformed
 
 -- "Numbers (000's grammar)", with "From now an exponent is an optional sign and one or more digits .."
 unfoldable pub NumbersRead : Type 0
@@ -129,43 +131,43 @@ pub record ExponentsByHand : Type 0 where
   -- "`[1e06]` gives m 1 and word 11 at 1006. `[01e6]` stays refused with 3 at 1"
   pub request : table_of 24 (read "[1e06]") ≡ rows_of_request
   pub integer_part : read "[01e6]" ≡ refused 3 1
-  pub signed_integer_part : meant "-01e6" ≡ Malformed
-  pub underscore_before_e : meant "1_e06" ≡ Malformed
-  pub point_before_e : meant "1.e06" ≡ Malformed
-  pub hex_digits : meant "0x1e06" ≡ Integer (pos 7686)
+  pub signed_integer_part : meant "-01e6" ≡ Err Malformed
+  pub underscore_before_e : meant "1_e06" ≡ Err Malformed
+  pub point_before_e : meant "1.e06" ≡ Err Malformed
+  pub hex_digits : meant "0x1e06" ≡ Ok (Integer (pos 7686))
   -- "leading zeros allowed"
-  pub after_zero : meant "0e06" ≡ Decimal false 0 (pos 6)
-  pub after_capital : meant "-12E06" ≡ Decimal true 12 (pos 6)
-  pub after_plus : meant "+1e+06" ≡ Decimal false 1 (pos 6)
-  pub after_minus : meant "-1.50e-007" ≡ Decimal true 150 (negsuc 8)
-  pub zeros_alone : meant "1e-00" ≡ Decimal false 1 (pos 0)
+  pub after_zero : meant "0e06" ≡ Ok (Decimal false 0 (pos 6))
+  pub after_capital : meant "-12E06" ≡ Ok (Decimal true 12 (pos 6))
+  pub after_plus : meant "+1e+06" ≡ Ok (Decimal false 1 (pos 6))
+  pub after_minus : meant "-1.50e-007" ≡ Ok (Decimal true 150 (negsuc 8))
+  pub zeros_alone : meant "1e-00" ≡ Ok (Decimal false 1 (pos 0))
   -- "a single underscore allowed between digits"
-  pub between_digits : meant "1e0_6" ≡ Decimal false 1 (pos 6)
-  pub first_underscore : meant "1e_5" ≡ Malformed
-  pub last_underscore : meant "1e5_" ≡ Malformed
-  pub two_underscores : meant "1e5__0" ≡ Malformed
-  pub signed_underscore : meant "1e+_1" ≡ Malformed
+  pub between_digits : meant "1e0_6" ≡ Ok (Decimal false 1 (pos 6))
+  pub first_underscore : meant "1e_5" ≡ Err Malformed
+  pub last_underscore : meant "1e5_" ≡ Err Malformed
+  pub two_underscores : meant "1e5__0" ≡ Err Malformed
+  pub signed_underscore : meant "1e+_1" ≡ Err Malformed
   -- "one or more digits", and nothing else
-  pub one_zero : meant "0e0" ≡ Decimal false 0 (pos 0)
-  pub no_digit : meant "1e" ≡ Malformed
-  pub sign_alone : meant "1e+" ≡ Malformed
-  pub letter : meant "1e0x" ≡ Malformed
-  pub point : meant "1e0.5" ≡ Malformed
-  pub point_first : meant "1e.5" ≡ Malformed
+  pub one_zero : meant "0e0" ≡ Ok (Decimal false 0 (pos 0))
+  pub no_digit : meant "1e" ≡ Err Malformed
+  pub sign_alone : meant "1e+" ≡ Err Malformed
+  pub letter : meant "1e0x" ≡ Err Malformed
+  pub point : meant "1e0.5" ≡ Err Malformed
+  pub point_first : meant "1e.5" ≡ Err Malformed
   -- "an exponent of very many zeros must not trip 5": any count of them
-  pub very_many : (count : ℕ) → number (ascii "1e" ++ (replicate count (code "0") ++ ascii "6")) ≡ Decimal false 1 (pos 6)
-  pub very_many_alone : (count : ℕ) → number (ascii "1e-" ++ (replicate count (code "0") ++ ascii "0")) ≡ Decimal false 1 (pos 0)
+  pub very_many : (count : ℕ) → number (ascii "1e" ++ (replicate count (code "0") ++ ascii "6")) ≡ Ok (Decimal false 1 (pos 6))
+  pub very_many_alone : (count : ℕ) → number (ascii "1e-" ++ (replicate count (code "0") ++ ascii "0")) ≡ Ok (Decimal false 1 (pos 0))
   -- "m over 9223372036854775807, or p outside -400..400, is refused with 5": p, and not the exponent
-  pub highest : meant "1.0e0401" ≡ Decimal false 10 (pos 400)
-  pub too_high : meant "1e0401" ≡ TooWide
-  pub lowest : meant "1e-0400" ≡ Decimal false 1 (negsuc 399)
-  pub too_low : meant "1.0e-0400" ≡ TooWide
-  pub zero_highest : meant "-0e0400" ≡ Decimal true 0 (pos 400)
-  pub zero_too_high : meant "-0e0401" ≡ TooWide
-  pub zero_lowest : meant "0e-0400" ≡ Decimal false 0 (negsuc 399)
-  pub zero_too_low : meant "0e-0401" ≡ TooWide
-  pub widest : meant "9223372036854775807e09" ≡ Decimal false 9223372036854775807 (pos 9)
-  pub too_wide : meant "9223372036854775808e09" ≡ TooWide
-  pub minus_too_wide : meant "-9223372036854775808e09" ≡ TooWide
+  pub highest : meant "1.0e0401" ≡ Ok (Decimal false 10 (pos 400))
+  pub too_high : meant "1e0401" ≡ Err TooWide
+  pub lowest : meant "1e-0400" ≡ Ok (Decimal false 1 (negsuc 399))
+  pub too_low : meant "1.0e-0400" ≡ Err TooWide
+  pub zero_highest : meant "-0e0400" ≡ Ok (Decimal true 0 (pos 400))
+  pub zero_too_high : meant "-0e0401" ≡ Err TooWide
+  pub zero_lowest : meant "0e-0400" ≡ Ok (Decimal false 0 (negsuc 399))
+  pub zero_too_low : meant "0e-0401" ≡ Err TooWide
+  pub widest : meant "9223372036854775807e09" ≡ Ok (Decimal false 9223372036854775807 (pos 9))
+  pub too_wide : meant "9223372036854775808e09" ≡ Err TooWide
+  pub minus_too_wide : meant "-9223372036854775808e09" ≡ Err TooWide
   -- 3 goes before 5
-  pub malformed_first : meant "1e0999_" ≡ Malformed
+  pub malformed_first : meant "1e0999_" ≡ Err Malformed

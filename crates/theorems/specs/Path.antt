@@ -2,19 +2,18 @@
 -- answer's numbers are; and paths in some texts, worked out by hand.
 -- By its contract `find_edition` (path/src/find.rt) answers `found`, and `duper_find` (duper/src/lib.rt) the number of it.
 -- Assumes nothing.
-use Rattle.std.specs.Prelude.{◌≡◌, ℕ, ◌+◌, ◌*◌, ◌/◌, ◌%◌, ◌≤◌, ◌<◌, Bool, true, not, ◌&&◌, List, [], ◌∷◌, ◌++◌, length}
+use Rattle.std.specs.Prelude.{◌≡◌, ℕ, ◌+◌, ◌*◌, ◌/◌, ◌%◌, ◌≤◌, ◌<◌, Bool, true, not, ◌&&◌, List, [], ◌∷◌, ◌++◌, length, Ok, Err}
 use Prim.Native.Char.{code}
 use Prim.Native.String.{String}
 use Rattle.std.proofs.Math.Option.{none, some}
 use Rattle.text.specs.declared.switches.Switches.{Switches}
-use Rattle.text.specs.Refusal.{refusal}
+use Rattle.text.specs.Refusal.{refusal, Refusal}
 use Rattle.text.specs.Switches.{present_edition}
 use Rattle.text.specs.Bytes.{ascii, is, between, is_digit, digit_value}
 use Rattle.reader.specs.Syntax.{refused}
 use Rattle.reader.specs.Reading.{reading, node_count}
 use Rattle.path.specs.Path.{steps, index, found}
-use Rattle.path.specs.declared.find.Found.{Found}
-use Rattle.path.specs.declared.find.Found.TheVariants as F
+use Rattle.std.specs.declared.result.Result.{Result}
 use Rattle.duper.specs.Numbers.{found_number}
 use Rattle.theorems.specs.Insertion.{every}
 
@@ -62,17 +61,17 @@ IndicesRead = (s : List ℕ) → IndexOf s
 -- ---- answers
 
 -- a refusal by its number and place
-abbrev pub refused_at : (number place : ℕ) → Found
-refused_at number place = F.Refused (refusal number place)
+abbrev pub refused_at : (number place : ℕ) → Result ℕ Refusal
+refused_at number place = Err (refusal number place)
 
 module _ (sw : Switches) (words : ℕ) (text path : List ℕ) where
   -- what the call answers
-  abbrev pub answer : Found
+  abbrev pub answer : Result ℕ Refusal
   answer = found sw text path (reading sw words text)
 
   pub record PathAnswer : Type 0 where
     -- "the node's number": a node of the text
-    pub node : (n : ℕ) → answer ≡ F.At n → n < node_count (reading sw words text)
+    pub node : (n : ℕ) → answer ≡ Ok n → n < node_count (reading sw words text)
     -- "or 23 and the number of the first step, from 0": a step of the path, and one whose number is below the node count, so that it packs; a
     -- refused text has no nodes, so it was taken
     pub step : (k : ℕ) → answer ≡ refused_at 23 k → (k < length (steps path)) × (k < node_count (reading sw words text))
@@ -90,7 +89,7 @@ pub record FindCall (words : ℕ) (text path : List ℕ) : Type 0 where
 
 -- the number says which answer it is: below 4294967296 it is a node's, else it is a refusal times 4294967296 plus its place
 pub record Unpacked (words : ℕ) (text path : List ℕ) (a : FindCall words text path) : Type 0 where
-  pub node : a.number < 4294967296 → answer present_edition words text path ≡ F.At a.number
+  pub node : a.number < 4294967296 → answer present_edition words text path ≡ Ok a.number
   pub refusal : 4294967296 ≤ a.number → answer present_edition words text path ≡ refused_at (a.number / 4294967296) (a.number % 4294967296)
 
 unfoldable pub PathsUnpacked : Type 0
@@ -104,11 +103,11 @@ abbrev pub example : String
 example = "S({balls:[1,A({height_mm:7}),(null,\"x\")],\"a\\x2Eb\":{},\"\":{\"\":2},\"\\x30\":3})"
 
 -- in that text, with room for twelve nodes
-abbrev pub asked : String → Found
+abbrev pub asked : String → Result ℕ Refusal
 asked path = answer present_edition 144 (ascii example) (ascii path)
 
 -- any path in any text, with room for twenty nodes
-abbrev pub asked_in : (text path : List ℕ) → Found
+abbrev pub asked_in : (text path : List ℕ) → Result ℕ Refusal
 asked_in text path = answer present_edition 240 text path
 
 -- an array: nodes 1 to 10 are numbers, 11 is the object, 12 and 13 its members
@@ -117,10 +116,10 @@ many = ascii "[0,1,2,3,4,5,6,7,8,9,{r\"x y\":1,\"\\u00e9\":2}]"
 
 pub record PathsByHand : Type 0 where
   -- "the empty path is the root"
-  pub root : asked "" ≡ F.At 0
+  pub root : asked "" ≡ Ok 0
   -- "In an object a step is the content of a key": not as it is written, and no identifier
-  pub key : asked "balls" ≡ F.At 1
-  pub key_by_content : asked "0" ≡ F.At 11
+  pub key : asked "balls" ≡ Ok 1
+  pub key_by_content : asked "0" ≡ Ok 11
   pub key_as_written : asked "\\x30" ≡ refused_at 23 0
   pub key_in_quotes : asked "\"0\"" ≡ refused_at 23 0
   pub key_in_part : asked "ball" ≡ refused_at 23 0
@@ -129,10 +128,10 @@ pub record PathsByHand : Type 0 where
   pub identifier : asked "S" ≡ refused_at 23 0
   pub key_with_a_dot : asked "a.b" ≡ refused_at 23 0
   -- "In an array or tuple it is a decimal index from 0"
-  pub first_element : asked "balls.0" ≡ F.At 2
-  pub nested : asked "balls.1.height_mm" ≡ F.At 4
-  pub tuple : asked "balls.2" ≡ F.At 5
-  pub in_tuple : asked "balls.2.1" ≡ F.At 7
+  pub first_element : asked "balls.0" ≡ Ok 2
+  pub nested : asked "balls.1.height_mm" ≡ Ok 4
+  pub tuple : asked "balls.2" ≡ Ok 5
+  pub in_tuple : asked "balls.2.1" ≡ Ok 7
   pub past_the_end : asked "balls.3" ≡ refused_at 23 1
   -- "without leading zeros", and nothing but digits
   pub leading_zero : asked "balls.01" ≡ refused_at 23 1
@@ -151,16 +150,16 @@ pub record PathsByHand : Type 0 where
   pub in_an_object : asked "balls.1.0" ≡ refused_at 23 2
   pub first_of_two : asked "x.y" ≡ refused_at 23 0
   -- "steps separated by `.`": empty ones too
-  pub dot : asked "." ≡ F.At 10
+  pub dot : asked "." ≡ Ok 10
   pub two_dots : asked ".." ≡ refused_at 23 2
   pub dot_first : asked ".balls" ≡ refused_at 23 1
   pub dot_last : asked "balls." ≡ refused_at 23 1
   -- an index of two digits, a key in a raw string and one with an escape of two bytes, asked for by these bytes
-  pub two_digits : asked_in many (ascii "10") ≡ F.At 11
-  pub raw_key : asked_in many (ascii "10.x y") ≡ F.At 12
-  pub beyond_ascii : asked_in many (ascii "10." ++ (0xC3 ∷ 0xA9 ∷ [])) ≡ F.At 13
+  pub two_digits : asked_in many (ascii "10") ≡ Ok 11
+  pub raw_key : asked_in many (ascii "10.x y") ≡ Ok 12
+  pub beyond_ascii : asked_in many (ascii "10." ++ (0xC3 ∷ 0xA9 ∷ [])) ≡ Ok 13
   pub not_utf8 : asked_in many (ascii "10." ++ (0xE9 ∷ [])) ≡ refused_at 23 1
-  pub tuple_at_the_root : asked_in (ascii "(5)") (ascii "0") ≡ F.At 1
+  pub tuple_at_the_root : asked_in (ascii "(5)") (ascii "0") ≡ Ok 1
   -- "The call reads the text into the lent table itself": a refusal of the reading goes first
   pub refused_text : answer present_edition 144 (ascii "[,,]") (ascii "0") ≡ refused_at 7 2
   pub no_room : answer present_edition 12 (ascii "[1]") [] ≡ refused_at 10 1

@@ -4,11 +4,11 @@
 -- By their contracts `salvage_edition`, and in the present edition `salvage` (salvage/src/salvage.rt), leave what the definition `salvage` says,
 -- and what `duper_salvage` (duper/src/lib.rt) leaves is in `SalvageCrosses`.
 -- Assumes nothing.
-use Rattle.std.specs.Prelude.{◌≡◌, ℕ, suc, ◌+◌, ◌*◌, ◌/◌, ◌%◌, ◌≤◌, ◌<◌, true, false, not, ◌⊎◌, List, [], ◌∷◌, ◌++◌, eqb, length, take, drop, replicate, pos}
+use Rattle.std.specs.Prelude.{◌≡◌, ℕ, suc, ◌+◌, ◌*◌, ◌/◌, ◌%◌, ◌≤◌, ◌<◌, true, false, not, ◌⊎◌, List, [], ◌∷◌, ◌++◌, eqb, length, take, drop, replicate, pos, Ok, Err}
 use Prim.Native.String.{String}
 use Rattle.std.proofs.Math.Option.{Option, none, some}
 use Rattle.text.specs.declared.switches.Switches.{Switches}
-use Rattle.text.specs.Refusal.{refusal}
+use Rattle.text.specs.Refusal.{refusal, Refusal}
 use Rattle.text.specs.Switches.{present_edition}
 use Rattle.text.specs.Bytes.{ascii}
 use Rattle.reader.specs.Tree as T
@@ -18,7 +18,7 @@ use Rattle.reader.specs.Syntax.{Outcome, taken, refused}
 use Rattle.reader.specs.Reading.{node_limit, reading, is_taken, node_count}
 use Rattle.salvage.specs.Salvage.{lines_of, line_reading, line_verdict, kept_of, verdicts_of, nodes_of, salvaged_text, SalvageResult, salvage_leaving, salvage}
 use Rattle.salvage.specs.declared.salvage.Salvaged.{Salvaged}
-use Rattle.salvage.specs.declared.salvage.Salvaged.TheVariants as S
+use Rattle.std.specs.declared.result.Result.{Result}
 use Rattle.duper.specs.Numbers.{SalvageCrosses}
 use Rattle.theorems.specs.Insertion.{every}
 
@@ -142,14 +142,14 @@ module _ (sw : Switches) (words : ℕ) (log : List ℕ) where
 -- every salvage that is not refused is so
 unfoldable pub SalvagesRead : Type 0
 SalvagesRead =
-    (sw : Switches) (words : ℕ) (log out verdicts : List ℕ) (bytes lines : ℕ) → (salvage sw words log out verdicts).answer ≡ S.Written bytes lines
+    (sw : Switches) (words : ℕ) (log out verdicts : List ℕ) (bytes lines : ℕ) → (salvage sw words log out verdicts).answer ≡ Ok (record { bytes = bytes; lines = lines })
     → Salvage sw words log bytes lines out verdicts (salvage sw words log out verdicts).out (salvage sw words log out verdicts).verdicts
 
 -- ---- when a log is salvaged
 
 -- a refusal by its number and place
-abbrev pub refused_at : (number place : ℕ) → Salvaged
-refused_at number place = S.Refused (refusal number place)
+abbrev pub refused_at : (number place : ℕ) → Result Salvaged Refusal
+refused_at number place = Err (refusal number place)
 
 module _ (sw : Switches) (words : ℕ) (log out verdicts : List ℕ) where
   -- the bytes to be written
@@ -167,7 +167,7 @@ module _ (sw : Switches) (words : ℕ) (log out verdicts : List ℕ) where
     pub list_short : length log ≤ 65536 → length verdicts < length (lines_of log) → (salvage sw words log out verdicts).answer ≡ refused_at 27 0
     pub no_room : length log ≤ 65536 → length (lines_of log) ≤ length verdicts → NoRoomLeft → (salvage sw words log out verdicts).answer ≡ refused_at 28 0
     pub salvaged : length log ≤ 65536 → length (lines_of log) ≤ length verdicts → (NoRoomLeft → ⊥)
-        → (salvage sw words log out verdicts).answer ≡ S.Written text_bytes (length (lines_of log))
+        → (salvage sw words log out verdicts).answer ≡ Ok (record { bytes = text_bytes; lines = (length (lines_of log)) })
     -- "each leaves output and list untouched"
     pub untouched : (number place : ℕ) → (salvage sw words log out verdicts).answer ≡ refused_at number place
         → ((salvage sw words log out verdicts).out ≡ out) × ((salvage sw words log out verdicts).verdicts ≡ verdicts)
@@ -237,29 +237,29 @@ pub record SalvagesByHand : Type 0 where
   pub last_ended : lines_of (lf "a" (lf "" (lf "b" []))) ≡ ascii "a" ∷ [] ∷ ascii "b" ∷ []
   pub last_open : lines_of (lf "a" (ascii "b")) ≡ ascii "a" ∷ ascii "b" ∷ []
   -- "later places of both stay"
-  pub two_kept : asked 10 24 5 example ≡ salvage_leaving (S.Written 21 4) (example_text ++ (77 ∷ 77 ∷ 77 ∷ [])) (0 ∷ 7 ∷ 0 ∷ 3 ∷ 99 ∷ []) (zero_table 10)
+  pub two_kept : asked 10 24 5 example ≡ salvage_leaving (Ok (record { bytes = 21; lines = 4 })) (example_text ++ (77 ∷ 77 ∷ 77 ∷ [])) (0 ∷ 7 ∷ 0 ∷ 3 ∷ 99 ∷ []) (zero_table 10)
   -- what is written, read: the array, and in it an array and a tuple of an integer each
   pub two_read : reading present_edition (node_words * 5) example_text ≡ taken (branch (bare_head 0 21) Array (cons (branch (bare_head 2 5) Array (cons (leaf (bare_head 3 4) (T.integer (pos 1))) nil)) (cons (branch (bare_head 8 12) Tuple (cons (leaf (bare_head 9 10) (T.integer (pos 2))) nil)) nil)))
   -- 0D is a space of its line, and is written with it
-  pub carriage_return : asked 3 10 1 (ascii "[]" ++ (0x0D ∷ 0x0A ∷ [])) ≡ salvage_leaving (S.Written 9 1) (lf "[" (ascii "[]" ++ (0x0D ∷ lf "" (lf "," (ascii "]")))) ++ (77 ∷ [])) (0 ∷ []) (zero_table 3)
+  pub carriage_return : asked 3 10 1 (ascii "[]" ++ (0x0D ∷ 0x0A ∷ [])) ≡ salvage_leaving (Ok (record { bytes = 9; lines = 1 })) (lf "[" (ascii "[]" ++ (0x0D ∷ lf "" (lf "," (ascii "]")))) ++ (77 ∷ [])) (0 ∷ []) (zero_table 3)
   -- a character that is cut off loses its line alone
-  pub cut_off : asked 2 8 2 (lf "[]" (ascii "[\"" ++ (0xC3 ∷ []))) ≡ salvage_leaving (S.Written 8 2) (lf "[" (lf "[]" (lf "," (ascii "]")))) (0 ∷ 2 ∷ []) (zero_table 2)
+  pub cut_off : asked 2 8 2 (lf "[]" (ascii "[\"" ++ (0xC3 ∷ []))) ≡ salvage_leaving (Ok (record { bytes = 8; lines = 2 })) (lf "[" (lf "[]" (lf "," (ascii "]")))) (0 ∷ 2 ∷ []) (zero_table 2)
   -- a line that has no room by itself is lost, and the others are kept; one that has, and the array not, is 28
-  pub no_room_alone : asked 2 8 2 (lf "[1,1]" (ascii "[]")) ≡ salvage_leaving (S.Written 8 2) (lf "[" (lf "[]" (lf "," (ascii "]")))) (10 ∷ 0 ∷ []) (zero_table 2)
+  pub no_room_alone : asked 2 8 2 (lf "[1,1]" (ascii "[]")) ≡ salvage_leaving (Ok (record { bytes = 8; lines = 2 })) (lf "[" (lf "[]" (lf "," (ascii "]")))) (10 ∷ 0 ∷ []) (zero_table 2)
   pub no_room_together : asked 3 30 2 (lf "[1,1]" (ascii "[]")) ≡ left_by 28 3 30 2
   -- no line reads, or there is none
-  pub none_kept : asked 1 3 2 (lf "" (ascii "1")) ≡ salvage_leaving (S.Written 3 2) (lf "[" (ascii "]")) (7 ∷ 7 ∷ []) (zero_table 1)
-  pub empty_log : asked 1 4 1 [] ≡ salvage_leaving (S.Written 3 0) (lf "[" (ascii "]") ++ (77 ∷ [])) (99 ∷ []) (zero_table 1)
+  pub none_kept : asked 1 3 2 (lf "" (ascii "1")) ≡ salvage_leaving (Ok (record { bytes = 3; lines = 2 })) (lf "[" (ascii "]")) (7 ∷ 7 ∷ []) (zero_table 1)
+  pub empty_log : asked 1 4 1 [] ≡ salvage_leaving (Ok (record { bytes = 3; lines = 0 })) (lf "[" (ascii "]") ++ (77 ∷ [])) (99 ∷ []) (zero_table 1)
   -- "27 at 0 if the list is shorter than the lines"
   pub list_short : asked 10 24 3 example ≡ left_by 27 10 24 3
   -- "28 at 0 if output room .. or that table's nodes would be passed": five nodes
   pub output_short : asked 10 20 4 example ≡ left_by 28 10 20 4
-  pub output_enough : (asked 10 21 4 example).answer ≡ S.Written 21 4
+  pub output_enough : (asked 10 21 4 example).answer ≡ Ok (record { bytes = 21; lines = 4 })
   pub nodes_few : asked 4 21 4 example ≡ left_by 28 4 21 4
-  pub nodes_enough : (asked 5 21 4 example).answer ≡ S.Written 21 4
+  pub nodes_enough : (asked 5 21 4 example).answer ≡ Ok (record { bytes = 21; lines = 4 })
   pub no_node_law : asked 0 3 0 [] ≡ left_by 28 0 3 0
   -- "in this order"
   pub list_first : asked 0 0 3 example ≡ left_by 27 0 0 3
   -- "with 31 as the depth limit": the line has 62 bytes and 31 nodes
-  pub deep_enough : (asked 32 68 1 (replicate 31 0x5B ++ replicate 31 0x5D)).answer ≡ S.Written 68 1
+  pub deep_enough : (asked 32 68 1 (replicate 31 0x5B ++ replicate 31 0x5D)).answer ≡ Ok (record { bytes = 68; lines = 1 })
   pub too_deep : (asked 40 80 1 (replicate 32 0x5B ++ replicate 32 0x5D)).verdicts ≡ 9 ∷ []

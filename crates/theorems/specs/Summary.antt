@@ -4,14 +4,14 @@
 -- By its contract `summarize_edition` (summary/src/summary.rt) answers `summary`, and what `duper_summary` (duper/src/lib.rt) leaves is in
 -- `SummaryCrosses`.
 -- Assumes nothing.
-use Rattle.std.specs.Prelude.{◌≡◌, ℕ, suc, ◌+◌, ◌*◌, ◌/◌, ◌%◌, ◌^◌, ◌≤◌, ◌<◌, Bool, true, false, ◌⊎◌, List, [], ◌∷◌, ◌++◌, T, length, get_or, pos, negsuc, Float}
+use Rattle.std.specs.Prelude.{◌≡◌, ℕ, suc, ◌+◌, ◌*◌, ◌/◌, ◌%◌, ◌^◌, ◌≤◌, ◌<◌, Bool, true, false, ◌⊎◌, List, [], ◌∷◌, ◌++◌, T, length, get_or, pos, negsuc, Float, Some, None, Ok, Err}
 use Prim.Native.String.{String}
 use Rattle.std.proofs.Math.Option.{Option, none, some}
 use Rattle.std.specs.Float.{binary64}
 use Rattle.std.specs.Float.Ieee.{round, le, of_bits}
 use Rattle.std.specs.Float.Ieee.Exact.{HasValue}
 use Rattle.text.specs.declared.switches.Switches.{Switches}
-use Rattle.text.specs.Refusal.{refusal}
+use Rattle.text.specs.Refusal.{refusal, Refusal}
 use Rattle.text.specs.Switches.{present_edition}
 use Rattle.text.specs.Bytes.{ascii}
 use Rattle.reader.specs.Tree as T
@@ -25,7 +25,7 @@ use Rattle.summary.specs.declared.heights.Height.TheVariants as H
 use Rattle.summary.specs.declared.summary.Counts.{Counts}
 use Rattle.summary.specs.declared.summary.Heights.{Heights}
 use Rattle.summary.specs.declared.summary.Summary.{Summary}
-use Rattle.summary.specs.declared.summary.Summary.TheVariants as S
+use Rattle.std.specs.declared.result.Result.{Result}
 use Rattle.duper.specs.Numbers.{SummaryCrosses}
 
 -- ---- a height
@@ -74,18 +74,17 @@ RecordsRead =
 
 module _ (sw : Switches) (words : ℕ) (text : List ℕ) where
   -- what the call answers
-  abbrev pub answer : Summary
+  abbrev pub answer : Result Summary Refusal
   answer = summary sw text (reading sw words text)
 
 -- a refusal by its number and place
-abbrev pub refused_at : (number place : ℕ) → Summary
-refused_at number place = S.Refused (refusal number place)
+abbrev pub refused_at : (number place : ℕ) → Result Summary Refusal
+refused_at number place = Err (refusal number place)
 
 -- the counts that an answer holds: "A refusal holds no counts or heights"
-unfoldable pub counts_in : Summary → Option Counts
-counts_in (S.WithHeights counts heights) = some counts
-counts_in (S.WithoutHeights counts) = some counts
-counts_in (S.Refused f) = none
+unfoldable pub counts_in : Result Summary Refusal → Option Counts
+counts_in (Ok a) = some a.counts
+counts_in (Err f) = none
 
 -- the root is "an array of objects"
 pub record Records (tree : Tree) : Type 0 where
@@ -167,9 +166,9 @@ module _ (sw : Switches) (words : ℕ) (text : List ℕ) where
   measured_in tree = measured_heights (record_heights sw text (children_of tree))
 
   pub record HeightsIn : Type 0 where
-    pub some_measured : (counts : Counts) (h : Heights) (tree : Tree) → answer sw words text ≡ S.WithHeights counts h → reading sw words text ≡ taken tree
+    pub some_measured : (counts : Counts) (h : Heights) (tree : Tree) → answer sw words text ≡ Ok (record { counts = counts; heights = Some h }) → reading sw words text ≡ taken tree
         → (u : ℕ) × (l : List ℕ) × (measured_in tree ≡ u ∷ l) × (counts.measured ≡ length (u ∷ l)) × Floats h u l
-    pub none_measured : (counts : Counts) (tree : Tree) → answer sw words text ≡ S.WithoutHeights counts → reading sw words text ≡ taken tree
+    pub none_measured : (counts : Counts) (tree : Tree) → answer sw words text ≡ Ok (record { counts = counts; heights = None }) → reading sw words text ≡ taken tree
         → (measured_in tree ≡ []) × (counts.measured ≡ 0)
 
 unfoldable pub HeightsHeld : Type 0
@@ -194,10 +193,10 @@ pub record SummaryCall (words : ℕ) (text : List ℕ) : Type 0 where
 -- plus its place
 pub record SummaryUnpacked (words : ℕ) (text : List ℕ) (a : SummaryCall words text) : Type 0 where
   pub with_heights : a.number ≡ 0 → 0 < get_or a.counts 0 0
-      → (c : Counts) × (h : Heights) × (answer present_edition words text ≡ S.WithHeights c h)
+      → (c : Counts) × (h : Heights) × (answer present_edition words text ≡ Ok (record { counts = c; heights = Some h }))
       × (a.counts ≡ c.measured ∷ c.null ∷ c.absent ∷ c.unfit ∷ []) × (a.heights ≡ h.least ∷ h.greatest ∷ h.mean ∷ [])
   pub without : a.number ≡ 0 → get_or a.counts 0 0 ≡ 0
-      → (c : Counts) × (answer present_edition words text ≡ S.WithoutHeights c)
+      → (c : Counts) × (answer present_edition words text ≡ Ok (record { counts = c; heights = None }))
       × (a.counts ≡ c.measured ∷ c.null ∷ c.absent ∷ c.unfit ∷ []) × (a.heights ≡ a.lent_heights)
   pub refusal : 0 < a.number
       → (answer present_edition words text ≡ refused_at (a.number / 4294967296) (a.number % 4294967296))
@@ -209,7 +208,7 @@ SummariesUnpacked = (words : ℕ) (text : List ℕ) (a : SummaryCall words text)
 -- ---- examples
 
 -- the answer for a text, with room for forty nodes
-abbrev pub asked : String → Summary
+abbrev pub asked : String → Result Summary Refusal
 asked text = answer present_edition 480 (ascii text)
 
 -- so many measured, null, absent and unfit
@@ -217,18 +216,18 @@ abbrev pub four_counts : (measured null absent unfit : ℕ) → Counts
 four_counts measured null absent unfit = record { measured = measured; null = null; absent = absent; unfit = unfit }
 
 -- one record whose height is so many micrometres, by the bits of the float
-abbrev pub one : (bits : ℕ) → Summary
-one bits = S.WithHeights (four_counts 1 0 0 0) (record { least = of_bits binary64 bits; greatest = of_bits binary64 bits; mean = of_bits binary64 bits })
+abbrev pub one : (bits : ℕ) → Result Summary Refusal
+one bits = Ok (record { counts = (four_counts 1 0 0 0); heights = Some (record { least = of_bits binary64 bits; greatest = of_bits binary64 bits; mean = of_bits binary64 bits }) })
 
 -- one whose height is null, absent or unfit
-abbrev pub one_null : Summary
-one_null = S.WithoutHeights (four_counts 0 1 0 0)
+abbrev pub one_null : Result Summary Refusal
+one_null = Ok (record { counts = (four_counts 0 1 0 0); heights = None })
 
-abbrev pub one_absent : Summary
-one_absent = S.WithoutHeights (four_counts 0 0 1 0)
+abbrev pub one_absent : Result Summary Refusal
+one_absent = Ok (record { counts = (four_counts 0 0 1 0); heights = None })
 
-abbrev pub one_unfit : Summary
-one_unfit = S.WithoutHeights (four_counts 0 0 0 1)
+abbrev pub one_unfit : Result Summary Refusal
+one_unfit = Ok (record { counts = (four_counts 0 0 0 1); heights = None })
 
 pub record SummariesByHand : Type 0 where
   -- "0.250e1 is 2.5, and -0.0 is 0"
@@ -262,17 +261,17 @@ pub record SummariesByHand : Type 0 where
   pub identified : asked "A([B({height_mm:C(5)})])" ≡ one 0x40b3880000000000
   pub identified_null : asked "[{height_mm:Lost(null)}]" ≡ one_null
   -- no record at all
-  pub empty : asked "[]" ≡ S.WithoutHeights (four_counts 0 0 0 0)
+  pub empty : asked "[]" ≡ Ok (record { counts = (four_counts 0 0 0 0); heights = None })
   -- "missing heights counted apart from measured ones": 12 mm, 9 mm and 0 make 7 mm, and the nulls change nothing
   pub season : asked "[{height_mm:12},{height_mm:null},{height_mm:9},{},{height_mm:0},{height_mm:null},{height_mm:\"n/a\"}]"
-      ≡ S.WithHeights (four_counts 3 2 1 1) (record { least = of_bits binary64 0; greatest = of_bits binary64 0x40c7700000000000; mean = of_bits binary64 0x40bb580000000000 })
+      ≡ Ok (record { counts = (four_counts 3 2 1 1); heights = Some (record { least = of_bits binary64 0; greatest = of_bits binary64 0x40c7700000000000; mean = of_bits binary64 0x40bb580000000000 }) })
   -- "The mean is the exact sum as a float divided once": 0.1, 0.2 and 0.3 mm make 200 micrometres; as floats of millimetres, added up one by
   -- one, they would make 0x4069000000000001
   pub exact_sum : asked "[{height_mm:0.1},{height_mm:0.2},{height_mm:0.3}]"
-      ≡ S.WithHeights (four_counts 3 0 0 0) (record { least = of_bits binary64 0x4059000000000000; greatest = of_bits binary64 0x4072c00000000000; mean = of_bits binary64 0x4069000000000000 })
+      ≡ Ok (record { counts = (four_counts 3 0 0 0); heights = Some (record { least = of_bits binary64 0x4059000000000000; greatest = of_bits binary64 0x4072c00000000000; mean = of_bits binary64 0x4069000000000000 }) })
   -- 4 / 3
   pub rounded_mean : asked "[{height_mm:0.001},{height_mm:0.001},{height_mm:0.002}]"
-      ≡ S.WithHeights (four_counts 3 0 0 0) (record { least = of_bits binary64 0x3ff0000000000000; greatest = of_bits binary64 0x4000000000000000; mean = of_bits binary64 0x3ff5555555555555 })
+      ≡ Ok (record { counts = (four_counts 3 0 0 0); heights = Some (record { least = of_bits binary64 0x3ff0000000000000; greatest = of_bits binary64 0x4000000000000000; mean = of_bits binary64 0x3ff5555555555555 }) })
   -- "A root of another shape, or an element that isn't an object, is refused .. with 21 and the node's number, the smallest such"
   pub object_root : asked "{height_mm:5}" ≡ refused_at 21 0
   pub tuple_root : asked "({height_mm:5})" ≡ refused_at 21 0

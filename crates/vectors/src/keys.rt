@@ -6,27 +6,22 @@ use lexer::token::{content_is, is_key, is_keyed, part_of};
 use text::switches::present;
 
 fn no_keys(rt: &HostRuntime) {
-    super::show::line(rt, b"no keys");
+    super::show::line(rt, "no keys");
 }
 
 // Two keys, by their bytes.
 fn answer(rt: &HostRuntime, a: &[u8], b: &[u8]) {
     let sw = present();
-    if is_keyed(sw, a) {
-        if is_keyed(sw, b) {
-            let part = part_of(sw, b);
-            let body = part.body;
-            let start = part.span.start;
-            let stop = part.span.stop;
-            if content_is(sw, a, body, &b[start..stop]) {
-                super::show::line(rt, b"same");
-                return;
-            }
-            super::show::line(rt, b"different");
-            return;
-        }
+    if !is_keyed(sw, a) || !is_keyed(sw, b) {
+        no_keys(rt);
+        return;
     }
-    no_keys(rt);
+    let part = part_of(sw, b);
+    if content_is(sw, a, part.body, &b[part.span.start..part.span.stop]) {
+        super::show::line(rt, "same");
+    } else {
+        super::show::line(rt, "different");
+    }
 }
 
 // A key and the token from `at` on.
@@ -34,33 +29,20 @@ fn second(rt: &HostRuntime, key: &[u8], text: &[u8], at: usize)
     requires { at ≤ length text.now }
 {
     match next_token(present(), text, at) {
-        Next::Token(token) => {
-            if is_key(token) {
-                let start = token.span.start;
-                let stop = token.span.stop;
-                answer(rt, key, &text[start..stop]);
-                return;
-            }
-            no_keys(rt);
+        Ok(Next::Token(token)) if is_key(token) => {
+            answer(rt, key, &text[token.span.start..token.span.stop]);
         }
-        Next::End(_) => no_keys(rt),
-        Next::Refused(_) => no_keys(rt),
+        _ => no_keys(rt),
     }
 }
 
 // The first two tokens of a text.
 pub(crate) fn compare(rt: &HostRuntime, text: &[u8]) {
     match next_token(present(), text, 0) {
-        Next::Token(token) => {
-            if is_key(token) {
-                let start = token.span.start;
-                let stop = token.span.stop;
-                second(rt, &text[start..stop], text, stop);
-                return;
-            }
-            no_keys(rt);
+        Ok(Next::Token(token)) if is_key(token) => {
+            let span = token.span;
+            second(rt, &text[span.start..span.stop], text, span.stop);
         }
-        Next::End(_) => no_keys(rt),
-        Next::Refused(_) => no_keys(rt),
+        _ => no_keys(rt),
     }
 }

@@ -20,11 +20,7 @@ use text::span::MAX_TEXT;
 fn nibble(b: u8) -> u8
     ensures { result < 16 }
 {
-    let d = text::bytes::digit_value(b);
-    if d < 16 {
-        return d;
-    }
-    0
+    text::bytes::digit_value(b).unwrap_or(0)
 }
 
 // The byte of two hex digits.
@@ -36,7 +32,7 @@ fn pair(high: u8, low: u8) -> u8 {
 fn digit_at(case: &[u8], i: usize) -> usize
     ensures { result < 16 }
 {
-    nibble(byte_at(case, i)) as usize
+    usize::from(nibble(byte_at(case, i)))
 }
 
 // The number of five digits from i on.
@@ -48,24 +44,23 @@ fn five_digits(case: &[u8], i: usize) -> usize
 }
 
 // The byte b, count times, or as often as there is room, to out from `from` on: where it ends.
-fn repeat(b: u8, count: usize, out: &mut [u8], from: usize) -> usize {
-    let mut left = count;
-    let mut k = from;
-    while 0 < left {
-        if out.len() <= k {
-            return k;
-        }
-        out[k] = b;
-        k += 1;
-        left -= 1;
-    }
-    k
+fn repeat(b: u8, count: usize, out: &mut [u8], from: usize) -> usize
+    requires { from ≤ length out.old }
+    ensures { result ≤ length out.new }
+{
+    let room = &mut out[from..];
+    let n = count.min(room.len());
+    room[..n].fill(b);
+    from + n
 }
 
 // The text of a case, with each `~HH` and `~*NNNNN*B` replaced by its bytes, to the front of out: how many bytes it has.
-fn plain(case: &[u8], out: &mut [u8]) -> usize {
+fn plain(case: &[u8], out: &mut [u8]) -> usize
+    ensures { result ≤ length out.new }
+{
     let mut i = 0;
     let mut k = 0;
+    // kept: a turn goes over one byte of the case, three or nine.
     while i < case.len() {
         if out.len() <= k {
             return k;
@@ -90,37 +85,29 @@ fn plain(case: &[u8], out: &mut [u8]) -> usize {
 // One case: its letter, a space, and its text.
 fn run(rt: &HostRuntime, line: &[u8]) {
     if line.len() < 2 {
-        show::line(rt, b"no case");
+        show::line(rt, "no case");
         return;
     }
     let mut space = [0u8; MAX_TEXT];
     let n = plain(&line[2..], &mut space);
-    if MAX_TEXT < n {
-        return;
+    let text = &space[..n];
+    match line[0] {
+        b't' => tokens::tokens(rt, text),
+        b'u' => {
+            let checked = text::utf8::check_utf8(text);
+            show::front(rt, checked.front, checked.eights);
+        }
+        _ => keys::compare(rt, text),
     }
-    let mode = line[0];
-    if mode == b't' {
-        tokens::tokens(rt, &space[..n]);
-        return;
-    }
-    if mode == b'u' {
-        let checked = text::utf8::check_utf8(&space[..n]);
-        show::front(rt, checked.front, checked.eights);
-        return;
-    }
-    keys::compare(rt, &space[..n]);
 }
 
 // Each line of the input; a line ends with its line feed.
 fn run_all(rt: &HostRuntime, s: &[u8]) {
     let mut from = 0;
-    let mut i = 0;
-    while i < s.len() {
-        let at = i;
-        i += 1;
-        if s[at] == b'\n' {
-            run(rt, &s[from..at]);
-            from = i;
+    for (i, &b) in s.iter().enumerate() {
+        if b == b'\n' {
+            run(rt, &s[from..i]);
+            from = i + 1;
         }
     }
 }
@@ -134,6 +121,7 @@ fn read_full(rt: &HostRuntime, buf: &mut [u8]) -> usize
 {
     let mut from = rt.stdin();
     let mut n = 0;
+    // kept: how far a turn goes is what `read` says, and the library's methods that read to the end fill a Vec: memory is fixed here.
     while n < buf.len() {
         match from.read(&mut buf[n..]) {
             Ok(0) => return n,

@@ -5,66 +5,26 @@ fn put(rt: &HostRuntime, s: &[u8]) {
     let _written = rt.write_all(s);
 }
 
-fn put_decimal(rt: &HostRuntime, n: u64) {
-    let _written = print!(rt; "{n}");
-}
-
-pub(crate) fn line(rt: &HostRuntime, s: &[u8]) {
-    put(rt, s);
-    put(rt, b"\n");
+pub(crate) fn line(rt: &HostRuntime, s: &str) {
+    let _written = println!(rt; "{s}");
 }
 
 pub(crate) fn front(rt: &HostRuntime, n: usize, eights: usize) {
-    put(rt, b"front ");
-    put_decimal(rt, n as u64);
-    put(rt, b" eights ");
-    put_decimal(rt, eights as u64);
-    put(rt, b"\n");
+    let _written = println!(rt; "front {n} eights {eights}");
 }
 
 pub(crate) fn end(rt: &HostRuntime, place: usize) {
-    put(rt, b"end ");
-    put_decimal(rt, place as u64);
-    put(rt, b"\n");
+    let _written = println!(rt; "end {place}");
 }
 
 pub(crate) fn refused(rt: &HostRuntime, number: u8, place: usize) {
-    put(rt, b"refused ");
-    put_decimal(rt, number as u64);
-    put(rt, b" ");
-    put_decimal(rt, place as u64);
-    put(rt, b"\n");
-}
-
-fn hex_digit(n: u8) -> u8 {
-    if n < 10 {
-        return n + 48;
-    }
-    if n < 16 {
-        return n + 55;
-    }
-    63
-}
-
-fn hex_byte(rt: &HostRuntime, b: u8) {
-    let pair = [hex_digit(b / 16), hex_digit(b % 16)];
-    put(rt, &pair);
+    let _written = println!(rt; "refused {number} {place}");
 }
 
 fn hex(rt: &HostRuntime, s: &[u8]) {
-    for i in 0..s.len() {
-        hex_byte(rt, s[i]);
+    for b in s {
+        let _written = print!(rt; "{b:02X}");
     }
-}
-
-fn signed(rt: &HostRuntime, z: i64) {
-    if z < 0 {
-        put(rt, b"-");
-        let k = (-1 - z) as u64;
-        put_decimal(rt, k + 1);
-        return;
-    }
-    put_decimal(rt, z as u64);
 }
 
 // The longest content that is printed.
@@ -74,17 +34,16 @@ const LONGEST: usize = 4096;
 fn content(rt: &HostRuntime, token: &[u8]) {
     let mut out = [0u8; LONGEST];
     match lexer::token::put_token(text::switches::present(), token, &mut out) {
-        literals::content::Written::Bytes(n) => {
-            put_decimal(rt, n as u64);
-            put(rt, b":");
+        Ok(n) => {
+            let _written = print!(rt; "{n}:");
             if n <= LONGEST {
                 hex(rt, &out[..n]);
             }
         }
-        literals::content::Written::Refused => {
+        Err(literals::content::ContentError::NoContent) => {
             put(rt, b"no content");
         }
-        literals::content::Written::NoRoom => {
+        Err(literals::content::ContentError::NoRoom) => {
             put(rt, b"no room");
         }
     }
@@ -110,28 +69,15 @@ pub(crate) fn token(rt: &HostRuntime, kind: TokenKind, bytes: &[u8]) {
             content(rt, bytes);
         }
         TokenKind::Integer(z) => {
-            put(rt, b"integer ");
-            signed(rt, z);
+            let _written = print!(rt; "integer {z}");
         }
-        TokenKind::Decimal { minus, m, p } => decimal(rt, minus, m, p),
+        TokenKind::Decimal { minus, m, p } => {
+            let sign = if minus { "-" } else { "+" };
+            let _written = print!(rt; "decimal {sign} {m} {p}");
+        }
     }
-}
-
-fn decimal(rt: &HostRuntime, minus: bool, m: u64, p: i64) {
-    if minus {
-        put(rt, b"decimal - ");
-    } else {
-        put(rt, b"decimal + ");
-    }
-    put_decimal(rt, m);
-    put(rt, b" ");
-    signed(rt, p);
 }
 
 pub(crate) fn places(rt: &HostRuntime, start: usize, end: usize) {
-    put(rt, b" ");
-    put_decimal(rt, start as u64);
-    put(rt, b" ");
-    put_decimal(rt, end as u64);
-    put(rt, b", ");
+    let _written = print!(rt; " {start} {end}, ");
 }

@@ -6,20 +6,18 @@ pub(crate) fn tokens(rt: &HostRuntime, text: &[u8]) {
     let mut at = 0;
     while at <= text.len() {
         match next_token(sw, text, at) {
-            Next::Token(token) => {
-                let kind = token.kind;
-                let start = token.span.start;
-                let stop = token.span.stop;
-                super::show::token(rt, kind, &text[start..stop]);
-                super::show::places(rt, start, stop);
-                at = stop;
+            Ok(Next::Token(token)) => {
+                let span = token.span;
+                super::show::token(rt, token.kind, &text[span.start..span.stop]);
+                super::show::places(rt, span.start, span.stop);
+                at = span.stop;
             }
-            Next::End(place) => {
+            Ok(Next::End(place)) => {
                 super::show::end(rt, place);
                 return;
             }
-            Next::Refused(refusal) => {
-                super::show::refused(rt, refusal.number, refusal.place);
+            Err(refusal) => {
+                super::show::refused(rt, refusal.reason.number(), refusal.place);
                 return;
             }
         }

@@ -1,4 +1,5 @@
-use mathlib.Core.Path.{sym, ◌∙◌}
+use Rattle.text.specs.Refusal.{told}
+use mathlib.Core.Path.{sym, ◌∙◌, ap}
 use lib.ListN.{length}
 use Rattle.text.specs.Switches.{present_edition}
 use Rattle.path.proofs.FoundLaws.{found_place}
@@ -7,12 +8,12 @@ use Rattle.duper.proofs.duper_find.Goals as goal
 
 pub packed-requires : goal.packed-requires
 packed-requires c =
-    found_place present_edition (length c.args.table.now) c.args.text.now c.args.path.now _ (sym c.in-Refused.is ∙ c.find.ensures.0)
+    found_place present_edition (length c.args.table.now) c.args.text.now c.args.path.now _ (sym (ap told c.in-Err.is) ∙ c.find.ensures.0)
 
-pub returns-in-At : goal.returns-in-At
-returns-in-At c =
-    (node_number _ _ (sym c.in-At.is ∙ c.find.ensures.0), c.find.ensures.1)
+pub returns-in-Ok : goal.returns-in-Ok
+returns-in-Ok c =
+    (node_number _ _ (sym (ap told c.in-Ok.is) ∙ c.find.ensures.0), c.find.ensures.1)
 
-pub returns-in-Refused : goal.returns-in-Refused
-returns-in-Refused c =
-    (c.packed.ensures ∙ step_number _ _ (sym c.in-Refused.is ∙ c.find.ensures.0), c.find.ensures.1)
+pub returns-in-Err : goal.returns-in-Err
+returns-in-Err c =
+    (c.packed.ensures ∙ step_number _ _ (sym (ap told c.in-Err.is) ∙ c.find.ensures.0), c.find.ensures.1)

@@ -1,3 +1,5 @@
+use mathlib.Core.Path.{ap}
+use Rattle.text.specs.Refusal.{told}
 use lib.ListN.{length}
 use Rattle.text.specs.Switches.{present_edition}
 use Rattle.salvage.proofs.CallLaws.{salvage_place}
@@ -7,12 +9,12 @@ use Rattle.duper.proofs.duper_salvage.Goals as goal
 
 pub packed-requires : goal.packed-requires
 packed-requires c =
-    salvage_place present_edition (length c.args.table.now) c.args.log.now c.args.out.now c.args.verdicts.now _ _ _ _ c.salvage.ensures c.in-Refused.is
+    salvage_place present_edition (length c.args.table.now) c.args.log.now c.args.out.now c.args.verdicts.now _ _ _ _ c.salvage.ensures (ap told c.in-Err.is)
 
-pub returns-in-Written : goal.returns-in-Written
+pub returns-in-Ok : goal.returns-in-Ok
 unfolding salvage_number salvage_words
-returns-in-Written c = salvage_crosses _ _ _ _ _ _ c.salvage.ensures c.in-Written.is
+returns-in-Ok c = salvage_crosses _ _ _ _ _ _ c.salvage.ensures (ap told c.in-Ok.is)
 
-pub returns-in-Refused : goal.returns-in-Refused
+pub returns-in-Err : goal.returns-in-Err
 unfolding salvage_number salvage_words
-returns-in-Refused c = rw c.packed.ensures (salvage_crosses _ _ _ _ _ _ c.salvage.ensures c.in-Refused.is)
+returns-in-Err c = rw c.packed.ensures (salvage_crosses _ _ _ _ _ _ c.salvage.ensures (ap told c.in-Err.is))

@@ -1,15 +1,16 @@
-use mathlib.Core.Path.{refl, ◌∙◌}
+use Rattle.text.specs.Refusal.{told}
+use mathlib.Core.Path.{refl, ◌∙◌, ap}
 use Rattle.duper.specs.Internal.{words_of}
 use Rattle.duper.proofs.ChangeLaws.{told_done, told_refused, told_place}
 use Rattle.duper.proofs.tell.Goals as goal
 
 pub packed-requires : goal.packed-requires
-packed-requires c = told_place c.in-Refused.is c.requires
+packed-requires c = told_place (ap told c.in-Err.is) c.requires
 
-pub returns-in-Done : goal.returns-in-Done
+pub returns-in-Ok : goal.returns-in-Ok
 unfolding words_of
-returns-in-Done c = (told_done c.in-Done.is, refl)
+returns-in-Ok c = (told_done (ap told c.in-Ok.is), refl)
 
-pub returns-in-Refused : goal.returns-in-Refused
+pub returns-in-Err : goal.returns-in-Err
 unfolding words_of
-returns-in-Refused c = (c.packed.ensures ∙ told_refused c.in-Refused.is, refl)
+returns-in-Err c = (c.packed.ensures ∙ told_refused (ap told c.in-Err.is), refl)

@@ -1,6 +1,6 @@
 -- Tokens and what they begin, as the code knows them.
 -- Assumes nothing.
-use Rattle.std.specs.Prelude.{ℕ, suc, ◌-◌, ◌≤◌, ◌<◌, ◌≡◌, List, length, get_or, ℤ, pos, negsuc, true, cond}
+use Rattle.std.specs.Prelude.{ℕ, suc, ◌-◌, ◌≤◌, ◌<◌, ◌≡◌, List, length, get_or, ℤ, pos, negsuc, true, cond, Some, None}
 use Rattle.std.specs.Int.Signed.{le_z}
 use Rattle.text.specs.declared.switches.Switches.{Switches}
 use Rattle.text.specs.Bytes.{same_bytes, is, ascii}
@@ -13,6 +13,7 @@ use Rattle.text.specs.declared.span.Span as CS
 use Rattle.lexer.specs.declared.item.Token as CT
 use Rattle.reader.specs.declared.tree.Words.{Words}
 use Rattle.reader.specs.declared.tree.Begin.{Begin}
+use Rattle.std.specs.declared.option.Option as Rust
 use Rattle.reader.specs.declared.tree.Begin.TheVariants as B
 use Rattle.reader.specs.Tree.{Scalar, true_value, false_value, null_value, scalar_number, scalar_words}
 use Rattle.reader.specs.Syntax.{Begins, begins, container, scalar, identifier, nothing, span_of, opens_with_capital}
@@ -61,14 +62,14 @@ pub record LeafIs (sw : Switches) (s : List ℕ) (start stop : ℕ) (leaf : Word
   pub words : leaf ≡ leaf_of value
 
 -- what the token from `start` to `stop` begins
-abbrev pub BeginIs : Switches → List ℕ → (start stop : ℕ) → Begin → Type 0
-BeginIs sw s start stop (B.Container kind) = begins (span_of (token_at sw s start stop)) (form_at sw s start) ≡ container kind
-BeginIs sw s start stop (B.Scalar leaf) = LeafIs sw s start stop leaf
-BeginIs sw s start stop B.Identifier = begins (span_of (token_at sw s start stop)) (form_at sw s start) ≡ identifier
-BeginIs sw s start stop B.Nothing = begins (span_of (token_at sw s start stop)) (form_at sw s start) ≡ nothing
+abbrev pub BeginIs : Switches → List ℕ → (start stop : ℕ) → Rust.Option Begin → Type 0
+BeginIs sw s start stop (Some (B.Container kind)) = begins (span_of (token_at sw s start stop)) (form_at sw s start) ≡ container kind
+BeginIs sw s start stop (Some (B.Scalar leaf)) = LeafIs sw s start stop leaf
+BeginIs sw s start stop (Some B.Identifier) = begins (span_of (token_at sw s start stop)) (form_at sw s start) ≡ identifier
+BeginIs sw s start stop None = begins (span_of (token_at sw s start stop)) (form_at sw s start) ≡ nothing
 
 -- the same as a record
-pub record Begun (sw : Switches) (s : List ℕ) (start stop : ℕ) (r : Begin) : Type 0 where
+pub record Begun (sw : Switches) (s : List ℕ) (start stop : ℕ) (r : Rust.Option Begin) : Type 0 where
   pub is : BeginIs sw s start stop r
 
 -- the code's token stands there, in some edition
@@ -77,20 +78,20 @@ pub record TokenHere (s : List ℕ) (t : CT.Token) : Type 0 where
   pub token : IsToken sw s t
 
 -- what the code's token begins, in every edition in which it stands there
-pub record BeginsHere (s : List ℕ) (t : CT.Token) (r : Begin) : Type 0 where
+pub record BeginsHere (s : List ℕ) (t : CT.Token) (r : Rust.Option Begin) : Type 0 where
   pub is : (sw : Switches) → IsToken sw s t → Begun sw s t.span.start t.span.stop r
 
 -- what a mark begins
-unfoldable pub mark_begin : ℕ → Begin
-mark_begin b = cond (is "{" b) (B.Container Object) (cond (is "[" b) (B.Container Array) (cond (is "(" b) (B.Container Tuple) B.Nothing))
+unfoldable pub mark_begin : ℕ → Rust.Option Begin
+mark_begin b = cond (is "{" b) (Some (B.Container Object)) (cond (is "[" b) (Some (B.Container Array)) (cond (is "(" b) (Some (B.Container Tuple)) None))
 
 -- what a word of these bytes begins
-unfoldable pub word_begin : List ℕ → Begin
+unfoldable pub word_begin : List ℕ → Rust.Option Begin
 word_begin s =
-    cond (same_bytes s (ascii "true")) (B.Scalar (leaf_of true_value))
-    (cond (same_bytes s (ascii "false")) (B.Scalar (leaf_of false_value))
-    (cond (same_bytes s (ascii "null")) (B.Scalar (leaf_of null_value))
-    (cond (opens_with_capital s) B.Identifier B.Nothing)))
+    cond (same_bytes s (ascii "true")) (Some (B.Scalar (leaf_of true_value)))
+    (cond (same_bytes s (ascii "false")) (Some (B.Scalar (leaf_of false_value)))
+    (cond (same_bytes s (ascii "null")) (Some (B.Scalar (leaf_of null_value)))
+    (cond (opens_with_capital s) (Some B.Identifier) None)))
 
 -- what a decimal token's numbers keep to
 pub record DecimalFits (m : ℕ) (p : ℤ) : Type 0 where

@@ -1,12 +1,12 @@
 -- What the readers of values have done: the machine's run over the text they have read, and the words they have written.
 -- The machine looks at a stack's length and top frame only, so each claim is made for every stack of the given depth.
 -- Assumes nothing.
-use Rattle.std.specs.Prelude.{ℕ, suc, ◌+◌, ◌-◌, ◌*◌, ◌≤◌, ◌<◌, ◌≡◌, Bool, true, false, cond, ◌&&◌, List, [], ◌∷◌, ◌++◌, eqb, leb, length, get_or, take, drop}
+use Rattle.text.specs.declared.refusal.Reason.{Reason}
+use Rattle.std.specs.Prelude.{ℕ, suc, ◌+◌, ◌-◌, ◌*◌, ◌≤◌, ◌<◌, ◌≡◌, Bool, true, false, cond, ◌&&◌, List, [], ◌∷◌, ◌++◌, eqb, leb, length, get_or, take, drop, Some, None, Ok, Err}
 use Rattle.std.proofs.Math.Option.{Option, none, some}
 use Rattle.std.proofs.lemmas.List.Edits.{sets}
 use Rattle.text.specs.declared.switches.Switches.{Switches}
-use Rattle.text.specs.declared.refusal.Refusal.{Refusal}
-use Rattle.text.specs.Refusal.{refusal}
+use Rattle.text.specs.Refusal.{Refusal, refusal, number_of}
 use Rattle.lexer.specs.declared.item.TokenKind.{TokenKind}
 use Rattle.literals.specs.InternalContent.{CopiedAs}
 use Rattle.lexer.specs.Token.{tokens_from, token_content}
@@ -23,10 +23,9 @@ use Rattle.reader.specs.declared.tree.Children.{Children}
 use Rattle.reader.specs.declared.tree.Words.{Words}
 use Rattle.reader.specs.declared.items.Item.{Item}
 use Rattle.reader.specs.declared.items.Item.TheVariants as I
-use Rattle.reader.specs.declared.duplicates.Duplicate.{Duplicate}
-use Rattle.reader.specs.declared.duplicates.Duplicate.TheVariants as D
+use Rattle.std.specs.declared.option.Option as Rust
 use Rattle.reader.specs.declared.values.Progress.{Progress}
-use Rattle.reader.specs.declared.values.Progress.TheVariants as A
+use Rattle.std.specs.declared.result.Result.{Result}
 use Rattle.reader.specs.Tree.{Span, Tree, branch, Forest, size, head_of, rows, kind_number, node_words}
 use Rattle.reader.specs.Reading.{max_text, max_nodes, word_of}
 use Rattle.reader.specs.Syntax.{Label, label, Frame, frame, Slot, first, after, more, value, inside, Config, config, Begins, begins, span_of, is_object, head_by, ended, value_step, Outcome, refused, after_step, run, holds}
@@ -181,12 +180,12 @@ unless_duplicate none o = o
 unless_duplicate (some place) o = refused 8 place
 
 -- what the code found
-unfoldable pub place_of : Duplicate → Option ℕ
-place_of (D.At place) = some place
-place_of D.Nowhere = none
+unfoldable pub place_of : Rust.Option ℕ → Option ℕ
+place_of (Some place) = some place
+place_of None = none
 
 -- the first duplicate key of the nodes from x to m
-pub record DuplicateAt (sw : Switches) (s tab : List ℕ) (x m : ℕ) (r : Duplicate) : Type 0 where
+pub record DuplicateAt (sw : Switches) (s tab : List ℕ) (x m : ℕ) (r : Rust.Option ℕ) : Type 0 where
   pub is : (ks : List (List ℕ)) → SiblingKeys sw s tab x m ks → place_of r ≡ duplicate tab x [] ks
 
 -- the refusal f comes after the key from a to e, unless this key is among those of the nodes from x to m
@@ -245,8 +244,8 @@ pub record RefusesAfter (sw : Switches) (s : List ℕ) (kind : Kind) (i : ℕ) (
 abbrev pub ItemIs : Switches → List ℕ → Kind → (i : ℕ) → Slot → Item → Type 0
 ItemIs sw s kind i slot (I.Value t key) = Valued sw s kind i slot t.kind t.span.start t.span.stop key.start key.stop
 ItemIs sw s kind i slot (I.Last j) = Ends sw s kind i slot j
-ItemIs sw s kind i slot (I.Refused f) = Refuses sw s kind i slot f.number f.place
-ItemIs sw s kind i slot (I.RefusedAfter key f) = RefusesAfter sw s kind i slot f.number f.place key.start key.stop
+ItemIs sw s kind i slot (I.Refused f) = Refuses sw s kind i slot (number_of f.reason) f.place
+ItemIs sw s kind i slot (I.RefusedAfter key f) = RefusesAfter sw s kind i slot (number_of f.reason) f.place key.start key.stop
 
 -- the same as a record, where a child or the end is due, of a container with z children
 pub record ItemAt (sw : Switches) (s : List ℕ) (kind : Kind) (z i : ℕ) (r : Item) : Type 0 where
@@ -289,11 +288,16 @@ is_full limits due = due.fresh && leb limits.nodes due.spot.node
 abbrev pub opening_refusal : Limits → Due → ℕ
 opening_refusal limits due = cond (leb limits.depth due.spot.depth) 9 (cond (is_full limits due) 10 0)
 
+-- the number of a reason, or 0
+abbrev pub number_or_0 : Rust.Option Reason → ℕ
+number_or_0 None = 0
+number_or_0 (Some r) = number_of r
+
 -- a value that holds no others, by its token: 7 where a container is due, 10
-unfoldable pub leaf_progress : Limits → Due → CS.Span → Progress
+unfoldable pub leaf_progress : Limits → Due → CS.Span → Result Progress Refusal
 leaf_progress limits due span =
-    cond due.any (cond (is_full limits due) (A.Refused (refusal 10 span.start)) (A.Done span.stop (due.spot.node + 1)))
-    (A.Refused (refusal 7 span.start))
+    cond due.any (cond (is_full limits due) (Err (refusal 10 span.start)) (Ok (record { stop = span.stop; next = (due.spot.node + 1) })))
+    (Err (refusal 7 span.start))
 
 -- the table then
 unfoldable pub leaf_table : Limits → Due → CS.Span → Words → List ℕ → List ℕ
@@ -319,16 +323,16 @@ pub record ValueRefused (ω : List Frame → Outcome) (d n : ℕ) (tin tout : Li
   pub kept : (i : ℕ) → i < node_words * n → get_or tout i 0 ≡ get_or tin i 0
 
 -- `ValueRead` or `ValueRefused`, by the code's answer
-abbrev pub ProgressIs : Switches → Limits → List ℕ → (List Frame → Outcome) → Label → (o d parent n : ℕ) (tin tout : List ℕ) → Progress → Type 0
-ProgressIs sw limits s ω l o d parent n tin tout (A.Done j m) = ValueRead sw limits s ω l o d parent n tin tout j m
-ProgressIs sw limits s ω l o d parent n tin tout (A.Refused f) = ValueRefused ω d n tin tout f.number f.place
+abbrev pub ProgressIs : Switches → Limits → List ℕ → (List Frame → Outcome) → Label → (o d parent n : ℕ) (tin tout : List ℕ) → Result Progress Refusal → Type 0
+ProgressIs sw limits s ω l o d parent n tin tout (Ok p) = ValueRead sw limits s ω l o d parent n tin tout p.stop p.next
+ProgressIs sw limits s ω l o d parent n tin tout (Err f) = ValueRefused ω d n tin tout f.number f.place
 
 -- what the text comes to where a value is due, and its token begins b
 abbrev pub opened_by : Rules → List ℕ → Due → CS.Span → Begins → List Frame → Outcome
 opened_by rules s due span b = opened rules.sw rules.limits s span.start span.stop due.fresh due.any (label_of due.label) due.spot.node b
 
 -- the value that is due was read, or refused, from a token that begins b
-pub record ReadAs (rules : Rules) (s : List ℕ) (due : Due) (span : CS.Span) (b : Begins) (tin tout : List ℕ) (r : Progress) : Type 0 where
+pub record ReadAs (rules : Rules) (s : List ℕ) (due : Due) (span : CS.Span) (b : Begins) (tin tout : List ℕ) (r : Result Progress Refusal) : Type 0 where
   pub is : ProgressIs rules.sw rules.limits s (opened_by rules s due span b) (label_of due.label) span.start due.spot.depth due.spot.parent due.spot.node tin tout r
 
 -- ---- what comes late: a duplicate key is refused before all that stands after it
@@ -348,7 +352,7 @@ pub record KeyIn (sw : Switches) (s : List ℕ) (kind : Kind) (key : CS.Span) : 
   pub here : is_object kind ≡ true → KeyHere sw s key.start key.stop
 
 -- the first duplicate key of a container's children
-pub record FirstDuplicate (sw : Switches) (s : List ℕ) (kind : Kind) (tab : List ℕ) (c : Children) (r : Duplicate) : Type 0 where
+pub record FirstDuplicate (sw : Switches) (s : List ℕ) (kind : Kind) (tab : List ℕ) (c : Children) (r : Rust.Option ℕ) : Type 0 where
   pub is : (ks : List (List ℕ)) → KnownKeys sw s kind tab c.first c.next ks → place_of r ≡ duplicate_in kind tab c.first ks
 
 -- the refusal f comes, unless a key of the children before it is a duplicate
@@ -363,18 +367,18 @@ pub record RefusedLateAfter (sw : Switches) (s : List ℕ) (kind : Kind) (tab : 
       ≡ unless_duplicate (duplicate_in kind tab c.first ks) (unless_duplicate (key_duplicate kind key.start ks w) (refused f.number f.place))
 
 -- where a container ends: 8 at a duplicate key, if one was found
-unfoldable pub branch_progress : Duplicate → (stop next : ℕ) → Progress
-branch_progress (D.At place) stop next = A.Refused (refusal 8 place)
-branch_progress D.Nowhere stop next = A.Done stop next
+unfoldable pub branch_progress : Rust.Option ℕ → (stop next : ℕ) → Result Progress Refusal
+branch_progress (Some place) stop next = Err (refusal 8 place)
+branch_progress None stop next = Ok (record { stop = stop; next = next })
 
 -- the table then: the container's row, if none was found
-unfoldable pub branch_table : Duplicate → Due → Kind → Children → (stop : ℕ) → List ℕ → List ℕ
-branch_table (D.At place) due kind c stop tab = tab
-branch_table D.Nowhere due kind c stop tab = sets tab (node_words * due.spot.node) (row_of due (branch_words kind c.count) stop c.next)
+unfoldable pub branch_table : Rust.Option ℕ → Due → Kind → Children → (stop : ℕ) → List ℕ → List ℕ
+branch_table (Some place) due kind c stop tab = tab
+branch_table None due kind c stop tab = sets tab (node_words * due.spot.node) (row_of due (branch_words kind c.count) stop c.next)
 
 -- a container with these children has ended
-pub record BranchEnded (sw : Switches) (s : List ℕ) (due : Due) (kind : Kind) (c : Children) (stop : ℕ) (tin tout : List ℕ) (r : Progress) : Type 0 where
-  pub found : Duplicate
+pub record BranchEnded (sw : Switches) (s : List ℕ) (due : Due) (kind : Kind) (c : Children) (stop : ℕ) (tin tout : List ℕ) (r : Result Progress Refusal) : Type 0 where
+  pub found : Rust.Option ℕ
   pub first_found : FirstDuplicate sw s kind tin c found
   pub answered : r ≡ branch_progress found stop c.next
   pub wrote : tout ≡ branch_table found due kind c stop tin

@@ -11,8 +11,9 @@ use Rattle.text.specs.Bytes.{feed, is, is_digit_in, digit_value}
 use Rattle.text.proofs.Choice.{cond_both, is_true}
 use Rattle.literals.specs.declared.number.Number.{Number}
 use Rattle.literals.specs.declared.number.Number.TheVariants.{Start, Bad, Sign, Zero, Digit, Underscore, Dot, Prefix, Based, BasedUnderscore, Fraction, FractionUnderscore, ExpLetter, ExpSign, ExpDigit, ExpUnderscore}
-use Rattle.literals.specs.declared.number.Meaning.{Meaning}
-use Rattle.literals.specs.declared.number.Meaning.TheVariants.{Malformed}
+use Rattle.literals.specs.Number.{Meaning}
+use Rattle.std.specs.declared.result.Result.TheVariants.{Err}
+use Rattle.literals.specs.declared.number.NumberError.TheVariants.{Malformed}
 use Rattle.literals.specs.Number.{is_sign, is_zero, is_one_to_nine, is_e, base_of, number_step, signed_by, as_integer, as_decimal, meaning, number}
 use Rattle.theorems.specs.Number.{OptionalSign, none, signed, no_underscore, underscore, Followed, by_none, by_digit, Digits, IntegerPart, one_digit, more_digits, BaseLetter, hex, octal, binary, WithFraction, with_fraction, Mantissa, no_fraction, fraction, UpToE, up_to_e, exponent, Numeral, integer, based, without_exponent, with_exponent, NumbersRead}
 use Rattle.theorems.proofs.Number.DigitLaws.{from_byte, digit_alone, digit_more, fraction_more}
@@ -187,7 +188,7 @@ feed_read (b ∷ t) s x r =
 -- ---- at the end
 
 -- where what has been read is no number, the machine's state means none
-read_malformed : (s : List ℕ) (x : Number) → Read s x → ((y : Meaning) → Numeral s y → ⊥) → meaning x ≡ Malformed
+read_malformed : (s : List ℕ) (x : Number) → Read s x → ((y : Meaning) → Numeral s y → ⊥) → meaning x ≡ Err Malformed
 unfolding meaning
 read_malformed s x at_start f = refl
 read_malformed s x (at_sign b e) f = refl

@@ -13,7 +13,7 @@ use Rattle.text.proofs.Choice.{and_left}
 use Rattle.text.proofs.FeedLaws.{feed_append}
 use Rattle.literals.specs.declared.number.Number.{Number}
 use Rattle.literals.specs.declared.number.Number.TheVariants.{Start, Sign, Zero, Digit, Underscore, Dot, Prefix, Based, BasedUnderscore, Fraction, FractionUnderscore, ExpLetter, ExpSign, ExpDigit, ExpUnderscore}
-use Rattle.literals.specs.declared.number.Meaning.{Meaning}
+use Rattle.literals.specs.Number.{Meaning}
 use Rattle.literals.specs.Number.{is_sign, is_one_to_nine, is_e, base_of, number_step, as_integer, meaning, number}
 use Rattle.theorems.specs.Number.{OptionalSign, none, signed, Digits, IntegerPart, one_digit, more_digits, BaseLetter, hex, octal, binary, WithFraction, with_fraction, Mantissa, no_fraction, fraction, UpToE, up_to_e, exponent, Numeral, integer, based, without_exponent, with_exponent}
 use Rattle.theorems.proofs.Number.DigitLaws.{digit_least, other_digit, e_case, followed_fed, digits_fed}

@@ -1,5 +1,6 @@
 -- The numbers of an answer: a node of the text, a step of the path, or the reading's refusal; and the one number that says which.
 -- Assumes nothing.
+use Rattle.std.specs.Prelude.{Ok, Err}
 use mathlib.Core.Path.{◌≡◌, refl, sym, ap, ◌∙◌}
 use Prim.Native.Nat.{ℕ, ◌/◌, ◌%◌, ◌≤◌, ◌<◌}
 use native.Mathlib.Omega.{arith}
@@ -13,37 +14,37 @@ use Rattle.reader.specs.Reading.{reading, node_count}
 use Rattle.reader.proofs.NumberBound.{NumberWithin, number_law}
 use Rattle.reader.proofs.SizeLaws.{count_law}
 use Rattle.path.specs.Path.{steps, follow, found}
-use Rattle.path.specs.declared.find.Found.{Found}
-use Rattle.path.specs.declared.find.Found.TheVariants as F
+use Rattle.std.specs.declared.result.Result.{Result}
+use Rattle.text.specs.Refusal.{Refusal}
 use Rattle.path.proofs.FoundLaws.{Leads, found_leads, found_node, found_place}
 use Rattle.duper.specs.Numbers.{packed, found_number}
 use Rattle.theorems.specs.Path.{refused_at, answer, PathsAnswered, FindCall, PathsUnpacked}
 
 -- the number and the place of a refusal
-number_of : Found → ℕ
-number_of (F.At n) = 0
-number_of (F.Refused f) = f.number
+number_of : Result ℕ Refusal → ℕ
+number_of (Ok n) = 0
+number_of (Err f) = f.number
 
-place_of : Found → ℕ
-place_of (F.At n) = 0
-place_of (F.Refused f) = f.place
+place_of : Result ℕ Refusal → ℕ
+place_of (Ok n) = 0
+place_of (Err f) = f.place
 
 -- ---- a step
 
-step_leads : (nodes left k : ℕ) (a : Found) → Leads nodes 0 left a → a ≡ refused_at 23 k → (k < left) × (k < nodes)
+step_leads : (nodes left k : ℕ) (a : Result ℕ Refusal) → Leads nodes 0 left a → a ≡ refused_at 23 k → (k < left) × (k < nodes)
 unfolding Leads place_of
-step_leads nodes left k (F.At n) h e = let v : ◌≡◌ {A = ℕ} 0 1 = cc in absurd (omega arith)
-step_leads nodes left k (F.Refused f) h e =
+step_leads nodes left k (Ok n) h e = let v : ◌≡◌ {A = ℕ} 0 1 = cc in absurd (omega arith)
+step_leads nodes left k (Err f) h e =
     let q : f.place ≡ k = ap place_of e in
     let a = h.1 in
     let b = h.2 in
     (omega arith, omega arith)
 
 -- a path that leads nowhere is refused with 23
-step_number : (nodes left number place : ℕ) (a : Found) → Leads nodes 0 left a → a ≡ refused_at number place → number ≡ 23
+step_number : (nodes left number place : ℕ) (a : Result ℕ Refusal) → Leads nodes 0 left a → a ≡ refused_at number place → number ≡ 23
 unfolding Leads number_of
-step_number nodes left number place (F.At n) h e = cc
-step_number nodes left number place (F.Refused f) h e = sym (ap number_of e) ∙ h.0
+step_number nodes left number place (Ok n) h e = cc
+step_number nodes left number place (Err f) h e = sym (ap number_of e) ∙ h.0
 
 module _ (sw : Switches) (text path : List ℕ) where
   step_by : (k : ℕ) (o : Outcome) → NumberWithin o → found sw text path o ≡ refused_at 23 k → (k < length (steps path)) × (k < node_count o)
@@ -88,16 +89,16 @@ paths_answered sw words text path =
 -- ---- the number that C gets
 
 module _ (words : ℕ) (text path : List ℕ) (a : FindCall words text path) where
-  abbrev Numbered : Found → Type 0
-  Numbered f = (a.number < 4294967296 → f ≡ F.At a.number) × (4294967296 ≤ a.number → f ≡ refused_at (a.number / 4294967296) (a.number % 4294967296))
+  abbrev Numbered : Result ℕ Refusal → Type 0
+  Numbered f = (a.number < 4294967296 → f ≡ Ok a.number) × (4294967296 ≤ a.number → f ≡ refused_at (a.number / 4294967296) (a.number % 4294967296))
 
-  unpacked_by : (f : Found) → answer present_edition words text path ≡ f → a.number ≡ found_number f → Numbered f
+  unpacked_by : (f : Result ℕ Refusal) → answer present_edition words text path ≡ f → a.number ≡ found_number f → Numbered f
   unfolding found_number packed
-  unpacked_by (F.At n) e q =
+  unpacked_by (Ok n) e q =
       let l = found_node present_edition words text path n (sym e) in
       let c = count_law present_edition words text in
-      ((λ _. ap F.At (sym q)), λ h. absurd (omega arith))
-  unpacked_by (F.Refused f) e q =
+      ((λ _. ap Ok (sym q)), λ h. absurd (omega arith))
+  unpacked_by (Err f) e q =
       let p = found_place present_edition words text path f (sym e) in
       let s = some_number present_edition text path f.number f.place (reading present_edition words text) (number_law present_edition words text) e in
       let d : f.number ≡ a.number / 4294967296 = omega arith in

@@ -1,5 +1,6 @@
 -- What a call of `duper_salvage` answers and leaves says whether the log was salvaged.
 -- Assumes nothing.
+use Rattle.std.specs.Prelude.{Err}
 use mathlib.Core.Path.{◌≡◌, refl, sym, ap, ◌∙◌, subst}
 use Prim.Native.Nat.{ℕ, ◌/◌, ◌%◌, ◌≤◌, ◌<◌}
 use native.Mathlib.Omega.{arith}
@@ -9,7 +10,6 @@ use lib.ListN.{length}
 use Rattle.text.specs.Switches.{present_edition}
 use Rattle.text.specs.Refusal.{refusal}
 use Rattle.salvage.specs.Salvage.{lines_of, kept_of, salvaged_text, SalvageResult, salvage_refused, salvage_done, salvage}
-use Rattle.salvage.specs.declared.salvage.Salvaged.TheVariants as S
 use Rattle.duper.specs.Numbers.{packed, salvage_number, salvage_words, SalvageCrosses}
 use Rattle.theorems.specs.Salvage.{Salvage, SalvageCall, SalvageUnpacked, SalvagesUnpacked}
 use Rattle.theorems.proofs.Salvage.ReadLaw.{OneOfThree, Ways, refused_by, done_by, way, written_by}
@@ -35,7 +35,7 @@ module _ (words : ℕ) (log : List ℕ) (a : SalvageCall words log) where
       let m : place ≡ a.number % 4294967296 = omega arith in
       record {
         written = λ z. absurd (omega arith);
-        refusal = λ _. (ap (λ (x : SalvageResult). x.answer) e ∙ (λ i. S.Refused (refusal (d i) (m i))), X.answer_is, X.out_is, X.verdicts_are);
+        refusal = λ _. (ap (λ (x : SalvageResult). x.answer) e ∙ (λ i. Err (refusal (d i) (m i))), X.answer_is, X.out_is, X.verdicts_are);
         cleared = X.table_is;
       }
   unpacked_by r e (done_by F) X =

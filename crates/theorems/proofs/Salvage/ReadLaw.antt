@@ -1,5 +1,9 @@
 -- What a call comes to: one of three refusals, with nothing written, or a salvage that reads. And what a line's number tells.
 -- Assumes nothing.
+use Rattle.salvage.specs.declared.salvage.Salvaged.{Salvaged}
+use Rattle.text.specs.Refusal.{Refusal}
+use Rattle.std.specs.declared.result.Result.{Result}
+use Rattle.std.specs.Prelude.{Ok}
 use mathlib.Core.Path.{◌≡◌, refl, sym, ap, ◌∙◌, subst}
 use Prim.Native.Nat.{ℕ, suc, ◌+◌, ◌≤◌, ◌<◌}
 use native.Mathlib.Omega.{arith}
@@ -18,7 +22,6 @@ use Rattle.reader.specs.Syntax.{Outcome, taken, refused}
 use Rattle.reader.specs.Reading.{max_text, node_limit, limits_to, reading, reading_to, is_taken, node_count}
 use Rattle.reader.proofs.NumberBound.{NumberWithin, outcome_number}
 use Rattle.salvage.specs.Salvage.{lines_of, line_depth, line_reading, line_verdict, verdicts_of, nodes_of, salvaged_text, SalvageResult, too_large, salvage_refused, salvage_done, salvage}
-use Rattle.salvage.specs.declared.salvage.Salvaged.TheVariants as S
 use Rattle.salvage.proofs.WalkLaws.{verdicts_length}
 use Rattle.theorems.specs.Salvage.{VerdictsTell, values_at, array_of, kept_lines, Salvage, SalvagesRead, refused_at, text_bytes, NoRoomLeft, SalvageAnswer, SalvagesAnswered}
 use Rattle.theorems.proofs.Salvage.ArrayLaws.{kept_each, values_count, values_size, written_reads}
@@ -113,12 +116,13 @@ module _ (sw : Switches) (words : ℕ) (log out verdicts : List ℕ) where
   -- ---- written
 
   -- what a call leaves that is done
-  done_reads : (bytes lines : ℕ) → AllFits → S.Written (length (salvaged_text kept)) (length (lines_of log)) ≡ S.Written bytes lines
+  done_reads : (bytes lines : ℕ) → AllFits → ◌≡◌ {A = Result Salvaged Refusal} (Ok (record { bytes = length (salvaged_text kept); lines = length (lines_of log) })) (Ok (record { bytes = bytes; lines = lines }))
       → Salvage sw words log bytes lines out verdicts (overwritten 0 (salvaged_text kept) out) (overwritten 0 (verdicts_of sw words (lines_of log)) verdicts)
   unfolding node_count size
   done_reads bytes lines F e =
-      let b : length (salvaged_text kept) ≡ bytes = cc in
-      let l : length (lines_of log) ≡ lines = cc in
+      let q : ◌≡◌ {A = Salvaged} (record { bytes = length (salvaged_text kept); lines = length (lines_of log) }) (record { bytes = bytes; lines = lines }) = cc in
+      let b : length (salvaged_text kept) ≡ bytes = ap (λ (x : Salvaged). x.bytes) q in
+      let l : length (lines_of log) ≡ lines = ap (λ (x : Salvaged). x.lines) q in
       let v : length (verdicts_of sw words (lines_of log)) ≡ lines = verdicts_length sw words (lines_of log) ∙ l in
       let h : length (verdicts_of sw words (lines_of log)) ≤ length verdicts = let g = F.listed in omega arith in
       let r : reading sw words (take bytes (overwritten 0 (salvaged_text kept) out)) ≡ taken (array_of bytes (values_at sw words 2 kept)) =
@@ -136,7 +140,7 @@ module _ (sw : Switches) (words : ℕ) (log out verdicts : List ℕ) where
       }
 
   -- of every way: an answer with bytes and lines is a salvage that reads
-  pub written_by : (r : SalvageResult) → Ways r → (bytes lines : ℕ) → r.answer ≡ S.Written bytes lines
+  pub written_by : (r : SalvageResult) → Ways r → (bytes lines : ℕ) → r.answer ≡ Ok (record { bytes = bytes; lines = lines })
       → Salvage sw words log bytes lines out verdicts r.out r.verdicts
   unfolding salvage_refused salvage_done
   written_by r (refused_by number place k) bytes lines e = let z : ◌≡◌ {A = ℕ} 0 1 = cc in absurd (omega arith)

@@ -1,5 +1,10 @@
 -- The three heights as numbers: one of the measured ones and none below it or above it; as floats still whole; and the mean between them.
 -- Assumes nothing.
+use Rattle.std.specs.declared.option.Option as Rust
+use Rattle.summary.specs.declared.summary.Summary.{Summary}
+use Rattle.text.specs.Refusal.{Refusal}
+use Rattle.std.specs.declared.result.Result.{Result}
+use Rattle.std.specs.Prelude.{Some, None, Ok}
 use mathlib.Core.Path.{◌≡◌, refl, sym, ap, ◌∙◌, subst}
 use Prim.Native.Nat.{ℕ, suc, ◌+◌, ◌*◌, ◌≤◌, ◌<◌, min, max}
 use native.Mathlib.Nat.{mul_assoc, mul_comm, mul_left_comm, mul-one, mul-pos}
@@ -25,9 +30,8 @@ use Rattle.summary.specs.declared.heights.Height.{Height}
 use Rattle.summary.specs.declared.heights.Height.TheVariants as H
 use Rattle.summary.specs.declared.summary.Counts.{Counts}
 use Rattle.summary.specs.declared.summary.Heights.{Heights}
-use Rattle.summary.specs.declared.summary.Summary.TheVariants as S
 use Rattle.summary.proofs.SummaryLaws.{Low, heights_low, measured_length}
-use Rattle.summary.proofs.AnswerLaws.{with_few}
+use Rattle.summary.proofs.AnswerLaws.{few_records}
 use Rattle.theorems.specs.Summary.{refused_at, Holds, ExtremesHeld, Is, Floats, HeightsHeld, MissingApart}
 use Rattle.theorems.proofs.Summary.ShapeLaw.{of_array}
 
@@ -186,23 +190,36 @@ floats_of u l w h =
 -- ---- an answer
 
 -- what a summary of records holds, by their measured heights
-held_by : (hs : List Height) (c : Counts) (h : Heights) (l : List ℕ) → measured_heights hs ≡ l → summary_of (counts_of hs) l ≡ S.WithHeights c h
+held_by : (hs : List Height) (c : Counts) (h : Heights) (l : List ℕ) → measured_heights hs ≡ l → ◌≡◌ {A = Result Summary Refusal} (Ok (summary_of (counts_of hs) l)) (Ok (record { counts = c; heights = Some h }))
     → (u : ℕ) × (k : List ℕ) × (measured_heights hs ≡ u ∷ k) × (c ≡ counts_of hs) × (h ≡ heights_of u k)
 unfolding summary_of
-held_by hs c h [] e q = let v : ◌≡◌ {A = ℕ} 0 1 = cc in absurd (omega arith)
-held_by hs c h (u ∷ k) e q = (u, k, e, cc, cc)
+held_by hs c h [] e q =
+    let s : ◌≡◌ {A = Summary} (summary_of (counts_of hs) []) (record { counts = c; heights = Some h }) = cc in
+    let t : ◌≡◌ {A = Rust.Option Heights} None (Some h) = ap (λ (x : Summary). x.heights) s in
+    let v : ◌≡◌ {A = ℕ} 0 1 = cc in
+    absurd (omega arith)
+held_by hs c h (u ∷ k) e q =
+    let s : ◌≡◌ {A = Summary} (summary_of (counts_of hs) (u ∷ k)) (record { counts = c; heights = Some h }) = cc in
+    let t : ◌≡◌ {A = Rust.Option Heights} (Some (heights_of u k)) (Some h) = ap (λ (x : Summary). x.heights) s in
+    (u, k, e, sym (ap (λ (x : Summary). x.counts) s), cc)
 
-none_by : (hs : List Height) (c : Counts) (l : List ℕ) → measured_heights hs ≡ l → summary_of (counts_of hs) l ≡ S.WithoutHeights c
+none_by : (hs : List Height) (c : Counts) (l : List ℕ) → measured_heights hs ≡ l → ◌≡◌ {A = Result Summary Refusal} (Ok (summary_of (counts_of hs) l)) (Ok (record { counts = c; heights = None }))
     → (measured_heights hs ≡ []) × (c ≡ counts_of hs)
 unfolding summary_of
-none_by hs c [] e q = (e, cc)
-none_by hs c (u ∷ k) e q = let v : ◌≡◌ {A = ℕ} 0 1 = cc in absurd (omega arith)
+none_by hs c [] e q =
+    let s : ◌≡◌ {A = Summary} (summary_of (counts_of hs) []) (record { counts = c; heights = None }) = cc in
+    (e, sym (ap (λ (x : Summary). x.counts) s))
+none_by hs c (u ∷ k) e q =
+    let s : ◌≡◌ {A = Summary} (summary_of (counts_of hs) (u ∷ k)) (record { counts = c; heights = None }) = cc in
+    let t : ◌≡◌ {A = Rust.Option Heights} (Some (heights_of u k)) None = ap (λ (x : Summary). x.heights) s in
+    let v : ◌≡◌ {A = ℕ} 0 1 = cc in
+    absurd (omega arith)
 
 -- neither kind of summary is a refusal
-with_is : (c : Counts) (h : Heights) (number place : ℕ) → refused_at number place ≡ S.WithHeights c h → ⊥
+with_is : (c : Counts) (h : Heights) (number place : ℕ) → refused_at number place ≡ Ok (record { counts = c; heights = Some h }) → ⊥
 with_is c h number place e = let v : ◌≡◌ {A = ℕ} 0 1 = cc in omega arith
 
-without_is : (c : Counts) (number place : ℕ) → refused_at number place ≡ S.WithoutHeights c → ⊥
+without_is : (c : Counts) (number place : ℕ) → refused_at number place ≡ Ok (record { counts = c; heights = None }) → ⊥
 without_is c number place e = let v : ◌≡◌ {A = ℕ} 0 1 = cc in omega arith
 
 pub heights_held : HeightsHeld
@@ -211,9 +228,9 @@ heights_held sw words text =
     record {
       some_measured = λ c h tree e r.
           let hs = record_heights sw text (children_of tree) in
-          let g = held_by hs c h (measured_heights hs) refl (of_array sw text (S.WithHeights c h) (with_is c h) tree (sym (ap (summary sw text) r) ∙ e)).1 in
+          let g = held_by hs c h (measured_heights hs) refl (of_array sw text (Ok (record { counts = c; heights = Some h })) (with_is c h) tree (sym (ap (summary sw text) r) ∙ e)).1 in
           let n : c.measured ≡ length (g.0 ∷ g.1) = ap (λ (x : Counts). x.measured) g.3 ∙ measured_length hs ∙ ap (λ (x : List ℕ). length x) g.2 in
-          let few = with_few sw words text c h (sym e) in (
+          let few = few_records sw words text (record { counts = c; heights = Some h }) (sym e) in (
             g.0,
             g.1,
             g.2,
@@ -223,7 +240,7 @@ heights_held sw words text =
           );
       none_measured = λ c tree e r.
           let hs = record_heights sw text (children_of tree) in
-          let g = none_by hs c (measured_heights hs) refl (of_array sw text (S.WithoutHeights c) (without_is c) tree (sym (ap (summary sw text) r) ∙ e)).1 in
+          let g = none_by hs c (measured_heights hs) refl (of_array sw text (Ok (record { counts = c; heights = None })) (without_is c) tree (sym (ap (summary sw text) r) ∙ e)).1 in
           (g.0, ap (λ (x : Counts). x.measured) g.1 ∙ measured_length hs ∙ ap (λ (x : List ℕ). length x) g.0);
     }
 

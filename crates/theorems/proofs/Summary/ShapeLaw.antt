@@ -1,5 +1,6 @@
 -- Which texts have a summary, which node 21 names, and that the counts add up.
 -- Assumes nothing.
+use Rattle.std.specs.Prelude.{Ok, Err}
 use mathlib.Core.Path.{◌≡◌, refl, sym, ap, ◌∙◌, subst}
 use Prim.Native.Nat.{ℕ, zero, suc, ◌+◌, ◌≤◌, ◌<◌}
 use native.Mathlib.Omega.{arith}
@@ -22,7 +23,8 @@ use Rattle.nodes.proofs.KeyLaws.{only_member}
 use Rattle.summary.specs.Summary.{member_height, record_height, record_heights, counts_of, measured_heights, summary_of, of_heights, is_object, is_array, of_records, of_root, summary}
 use Rattle.summary.specs.declared.summary.Counts.{Counts}
 use Rattle.summary.specs.declared.summary.Summary.{Summary}
-use Rattle.summary.specs.declared.summary.Summary.TheVariants as S
+use Rattle.std.specs.declared.result.Result.{Result}
+use Rattle.text.specs.Refusal.{Refusal}
 use Rattle.summary.proofs.RecordLaws.{is_other, any_number}
 use Rattle.summary.proofs.SummaryLaws.{counts_add_up, elements, other_root, array_root}
 use Rattle.summary.proofs.AnswerLaws.{records_of, heights_length, OfRoot, of_root_law}
@@ -73,7 +75,7 @@ kind_other t n = ap not (ne_eqb (kind_of t) 1 n)
 
 -- ---- the counts in an answer
 
-with_counts : (c : Counts) (l : List ℕ) → counts_in (summary_of c l) ≡ some c
+with_counts : (c : Counts) (l : List ℕ) → counts_in (Ok (summary_of c l)) ≡ some c
 unfolding counts_in summary_of
 with_counts c [] = refl
 with_counts c (u ∷ l) = refl
@@ -81,15 +83,13 @@ with_counts c (u ∷ l) = refl
 -- ---- the answer
 
 -- the number and the place of a refusal
-number_of : Summary → ℕ
-number_of (S.WithHeights counts heights) = 0
-number_of (S.WithoutHeights counts) = 0
-number_of (S.Refused f) = f.number
+number_of : Result Summary Refusal → ℕ
+number_of (Ok a) = 0
+number_of (Err f) = f.number
 
-place_of : Summary → ℕ
-place_of (S.WithHeights counts heights) = 0
-place_of (S.WithoutHeights counts) = 0
-place_of (S.Refused f) = f.place
+place_of : Result Summary Refusal → ℕ
+place_of (Ok a) = 0
+place_of (Err f) = f.place
 
 module _ (sw : Switches) (text : List ℕ) where
   by_element : (t : Tree) (i : ℕ) (c : Numbered) → FirstOther t i c → elements sw text t ≡ refused_at 21 c.number
@@ -98,22 +98,22 @@ module _ (sw : Switches) (text : List ℕ) where
       ap (of_records sw text (children_of t))
       (first_passes is_other 1 (children_of t) i c F.there (kind_other c.value F.other) (λ j d l q. kind_object d.value (F.before j d l q)))
 
-  by_records : (t : Tree) → Records t → elements sw text t ≡ of_heights (record_heights sw text (children_of t))
+  by_records : (t : Tree) → Records t → elements sw text t ≡ Ok (of_heights (record_heights sw text (children_of t)))
   unfolding of_records element
   by_records t R = ap (of_records sw text (children_of t)) (all_fail is_other 1 (children_of t) (λ i c q. kind_object c.value (R.objects i c q)))
 
   -- a root's summary that is no refusal is that of its records
-  module _ (a : Summary) (summarized : (number place : ℕ) → refused_at number place ≡ a → ⊥) where
+  module _ (a : Result Summary Refusal) (summarized : (number place : ℕ) → refused_at number place ≡ a → ⊥) where
     of_records_law : (t : Tree) (o : Option Numbered) → first_that is_other 1 (children_of t) ≡ o → of_records sw text (children_of t) o ≡ a
-        → ((i : ℕ) (d : Numbered) → element i 0 t ≡ some d → kind_of d.value ≡ 1) × (of_heights (record_heights sw text (children_of t)) ≡ a)
+        → ((i : ℕ) (d : Numbered) → element i 0 t ≡ some d → kind_of d.value ≡ 1) × (Ok (of_heights (record_heights sw text (children_of t))) ≡ a)
     unfolding of_records element
     of_records_law t none q e = ((λ i d r. object_kind d.value (none_passes is_other 1 (children_of t) i d q r)), e)
     of_records_law t (some c) q e = absurd (summarized 21 c.number e)
 
-    pub of_array : (t : Tree) → of_root sw text t ≡ a → Records t × (of_heights (record_heights sw text (children_of t)) ≡ a)
+    pub of_array : (t : Tree) → of_root sw text t ≡ a → Records t × (Ok (of_heights (record_heights sw text (children_of t))) ≡ a)
     unfolding of_root is_array
     of_array t e =
-        cond-case (λ (s : Summary). s ≡ a) (Records t × (of_heights (record_heights sw text (children_of t)) ≡ a)) (eqb (kind_of t) 2) e
+        cond-case (λ (s : Result Summary Refusal). s ≡ a) (Records t × (Ok (of_heights (record_heights sw text (children_of t))) ≡ a)) (eqb (kind_of t) 2) e
         (λ z f.
         let r = of_records_law t (first_that is_other 1 (children_of t)) refl f in
         (record { array = eqb-true (kind_of t) 2 z; objects = r.0 }, r.1))

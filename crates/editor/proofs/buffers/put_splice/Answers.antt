@@ -3,7 +3,7 @@ use mathlib.Core.Path.{sym, ap, ◌∙◌}
 use Prim.Native.Nat.{◌+◌, ◌-◌}
 use lib.ListN.{length, take, drop}
 use lib.Seq.{length-take-le}
-use Rattle.editor.specs.Edit.{overwritten}
+use Rattle.text.specs.Buffers.{overwritten}
 use Rattle.editor.proofs.BufferLaws.{over_splice}
 use Rattle.editor.proofs.buffers.put_splice.Goals as goal
 

@@ -2,7 +2,7 @@ use native.Mathlib.Omega.{arith}
 use mathlib.Core.Path.{ap, ◌∙◌}
 use Prim.Native.Nat.{◌-◌}
 use lib.ListN.{length, replicate}
-use Rattle.editor.specs.Edit.{overwritten}
+use Rattle.text.specs.Buffers.{overwritten}
 use Rattle.editor.proofs.BufferLaws.{over_text}
 use Rattle.editor.proofs.buffers.put_text.Goals as goal
 

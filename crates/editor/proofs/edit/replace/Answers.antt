@@ -1,5 +1,6 @@
+use Rattle.text.specs.Refusal.{told}
 use native.Mathlib.Omega.{arith}
-use mathlib.Core.Path.{refl, sym}
+use mathlib.Core.Path.{refl, sym, ap}
 use Prim.Native.Nat.{ℕ}
 use lib.ListN.{length-replicate}
 use lib.Seq.{length-take-le}
@@ -21,24 +22,24 @@ try_change-change-requires c = record { knows = c.requires.knows; within = c.req
 
 pub put_entry-requires : goal.put_entry-requires
 put_entry-requires c =
-    let m = judged_room _ _ _ _ _ _ _ _ c.try_change-change.ensures c.in-Done.is in
+    let m = judged_room _ _ _ _ _ _ _ _ c.try_change-change.ensures (ap told c.in-Ok.is) in
     let l = length_part c.args.span.start c.args.span.stop c.args.text.now c.requires.within.forwards (omega arith) in omega arith
 
 pub slice_bounds-draft-end : goal.slice_bounds-draft-end
-slice_bounds-draft-end c = let m = judged_room _ _ _ _ _ _ _ _ c.try_change-change.ensures c.in-Done.is in omega arith
+slice_bounds-draft-end c = let m = judged_room _ _ _ _ _ _ _ _ c.try_change-change.ensures (ap told c.in-Ok.is) in omega arith
 
 pub slice_bounds-put_text-end : goal.slice_bounds-put_text-end
-slice_bounds-put_text-end c = let m = judged_room _ _ _ _ _ _ _ _ c.try_change-change.ensures c.in-Done.is in sym (length-take-le _ _ (omega arith))
+slice_bounds-put_text-end c = let m = judged_room _ _ _ _ _ _ _ _ c.try_change-change.ensures (ap told c.in-Ok.is) in sym (length-take-le _ _ (omega arith))
 
 pub put_text-requires : goal.put_text-requires
-put_text-requires c = let m = judged_room _ _ _ _ _ _ _ _ c.try_change-change.ensures c.in-Done.is in
+put_text-requires c = let m = judged_room _ _ _ _ _ _ _ _ c.try_change-change.ensures (ap told c.in-Ok.is) in
     let l = length-take-le c.try_change-change.result.used.text c.try_change-change.new.draft (omega arith) in (omega arith, omega arith)
 
-pub returns-in-Refused : goal.returns-in-Refused
-returns-in-Refused c =
-    replace_refused c.args.present c.args.text.now c.args.journal.now _ c.args.span c.args.replacement.now c.requires.knows.text_fits_law c.requires.within _ _ _ c.try_change-change.ensures _ c.in-Refused.is
+pub returns-in-Err : goal.returns-in-Err
+returns-in-Err c =
+    replace_refused c.args.present c.args.text.now c.args.journal.now _ c.args.span c.args.replacement.now c.requires.knows.text_fits_law c.requires.within _ _ _ c.try_change-change.ensures _ (ap told c.in-Err.is)
 
-pub returns-in-Done : goal.returns-in-Done
-returns-in-Done c =
-    replace_done c.args.present c.args.text.now c.args.journal.now _ c.args.span c.args.replacement.now c.requires.knows.text_fits_law c.requires.within _ _ _ c.try_change-change.ensures _ _ _ c.in-Done.is
+pub returns-in-Ok : goal.returns-in-Ok
+returns-in-Ok c =
+    replace_done c.args.present c.args.text.now c.args.journal.now _ c.args.span c.args.replacement.now c.requires.knows.text_fits_law c.requires.within _ _ _ c.try_change-change.ensures _ _ _ (ap told c.in-Ok.is)
     c.put_text.ensures refl c.put_entry.ensures

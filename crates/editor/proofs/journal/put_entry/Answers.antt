@@ -2,7 +2,8 @@ use native.Mathlib.Omega.{arith}
 use mathlib.Core.Path.{ap, ◌∙◌}
 use Prim.Native.Nat.{◌+◌}
 use lib.ListN.{length}
-use Rattle.editor.specs.Edit.{le32, trailer_bytes, overwritten}
+use Rattle.text.specs.Buffers.{overwritten}
+use Rattle.editor.specs.Edit.{le32, trailer_bytes}
 use Rattle.editor.proofs.JournalLaws.{entry_put}
 use Rattle.editor.proofs.journal.put_entry.Goals as goal
 

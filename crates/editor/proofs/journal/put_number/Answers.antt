@@ -1,19 +1,12 @@
-use native.Mathlib.Omega.{arith}
-use lib.ListN.{length-set}
-use Rattle.editor.proofs.JournalLaws.{number_put}
+use mathlib.Core.Path.{ap, ◌∙◌}
+use Prim.Native.Nat.{ℕ}
+use mathlib.Core.List.{List}
+use lib.ListN.{take}
+use Rattle.text.specs.Buffers.{overwritten}
+use Rattle.editor.specs.Edit.{le32}
 use Rattle.editor.proofs.journal.put_number.Goals as goal
 
-pub bounds-dst-at-2 : goal.bounds-dst-at-2
-bounds-dst-at-2 c = simp length-set (omega arith)
-
-pub bounds-dst-at-3 : goal.bounds-dst-at-3
-bounds-dst-at-3 c = simp length-set (omega arith)
-
-pub bounds-dst-at-4 : goal.bounds-dst-at-4
-bounds-dst-at-4 c = simp length-set (omega arith)
-
-pub shape_of-dst : goal.shape_of-dst
-shape_of-dst c = simp length-set
-
 pub returns : goal.returns
-returns c = number_put c.args.dst.now c.args.at c.args.number (omega arith)
+unfolding le32
+returns c =
+    c.put_at.ensures ∙ ap (λ (s : List ℕ). overwritten c.args.at (take 4 s) c.args.dst.now) c.to_le_bytes.ensures

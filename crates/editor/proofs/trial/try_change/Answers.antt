@@ -1,12 +1,13 @@
+use Rattle.text.specs.Refusal.{told}
 use native.Mathlib.Omega.{arith}
-use mathlib.Core.Path.{refl, sym, ◌∙◌}
+use mathlib.Core.Path.{refl, sym, ◌∙◌, ap}
 use lib.Seq.{length-take-le}
 use Rattle.editor.specs.Edit.{text_of}
 use Rattle.editor.proofs.TrialLaws.{try_14, try_15, try_16, try_done}
 use Rattle.editor.proofs.trial.try_change.Goals as goal
 
-pub returns-then-lesser-new : goal.returns-then-lesser-new
-returns-then-lesser-new c =
+pub returns-then-min-new : goal.returns-then-min-new
+returns-then-min-new c =
     try_14 c.args.present c.args.plan _ _ _ _ _ c.requires.knows c.requires.within _ _ _ (omega arith) c.refused.ensures refl
 
 pub returns-then-journal-plan : goal.returns-then-journal-plan
@@ -24,15 +25,15 @@ put_splice-requires c =
 pub slice_bounds-read_edition-end-2 : goal.slice_bounds-read_edition-end-2
 slice_bounds-read_edition-end-2 c = sym (length-take-le _ _ (omega arith))
 
-pub slice_bounds-read_edition-end-in-Refused : goal.slice_bounds-read_edition-end-in-Refused
-slice_bounds-read_edition-end-in-Refused c = sym (length-take-le _ _ c.requires.knows.text_fits_law)
+pub slice_bounds-read_edition-end-in-Err : goal.slice_bounds-read_edition-end-in-Err
+slice_bounds-read_edition-end-in-Err c = sym (length-take-le _ _ c.requires.knows.text_fits_law)
 
-pub returns-in-Taken : goal.returns-in-Taken
+pub returns-in-Ok : goal.returns-in-Ok
 unfolding text_of
-returns-in-Taken c = try_done c.args.present c.args.plan _ _ _ _ _ c.requires.knows c.requires.within _ _ _ (omega arith) c.if-journal-plan.false _ c.requires.max_text_in_bounds c.put_splice.ensures _
-    (sym c.read_edition.ensures.0 ∙ c.in-Taken.is) c.read_edition.ensures.1 refl
+returns-in-Ok c = try_done c.args.present c.args.plan _ _ _ _ _ c.requires.knows c.requires.within _ _ _ (omega arith) c.if-journal-plan.false _ c.requires.max_text_in_bounds c.put_splice.ensures _
+    (sym c.read_edition.ensures.0 ∙ (ap told c.in-Ok.is)) c.read_edition.ensures.1 refl
 
-pub returns-in-Refused : goal.returns-in-Refused
+pub returns-in-Err : goal.returns-in-Err
 unfolding text_of
-returns-in-Refused c = try_16 c.args.present c.args.plan _ _ _ _ _ c.requires.knows c.requires.within _ _ _ (omega arith) c.if-journal-plan.false _ c.requires.max_text_in_bounds c.put_splice.ensures _ _
-    (sym c.read_edition.ensures.0 ∙ c.in-Refused.is) c.read_edition.auto.table c.read_edition-in-Refused.ensures.1 c.refused-in-Refused.ensures
+returns-in-Err c = try_16 c.args.present c.args.plan _ _ _ _ _ c.requires.knows c.requires.within _ _ _ (omega arith) c.if-journal-plan.false _ c.requires.max_text_in_bounds c.put_splice.ensures _ _
+    (sym c.read_edition.ensures.0 ∙ (ap told c.in-Err.is)) c.read_edition.auto.table c.read_edition-read.ensures.1 c.refused-in-Err.ensures

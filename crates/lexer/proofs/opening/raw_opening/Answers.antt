@@ -1,25 +1,20 @@
-use native.Mathlib.Omega.{arith}
-use mathlib.Core.Path.{sym, ◌∙◌}
-use Prim.Native.Nat.{◌-◌}
-use borrow.Author.Tests.{eq-eqb, ne_eqb}
-use Rattle.text.proofs.ListLaws.{get_d_inside}
+use Rattle.std.proofs.Common.{rules, arith}
+use Rattle.std.proofs.lemmas.Grind.{common_steps}
+use Rattle.text.specs.Bytes.{is}
 use Rattle.lexer.proofs.OpeningLaws.{raw_at_law}
 use Rattle.lexer.proofs.opening.raw_opening.Goals as goal
 
-pub overflow_add-before : goal.overflow_add-before
-overflow_add-before c = let h = get_d_inside c.args.text.now c.hashes_end-quote.result 34 (sym c.byte_at.ensures ∙ c.if-byte_at-eq34.true) (omega arith) in omega arith
+pub returns-in-34 : goal.returns-in-34
+returns-in-34 c =
+    let e = raw_at_law c.args.is_text c.args.before c.args.text.now c.args.from _ (c.front-hashes.ensures.counts (is "#") (λ b r l h. search rules)) in
+    grind (arith, common_steps)
 
-pub overflow_add-before-then-byte_at-eq34 : goal.overflow_add-before-then-byte_at-eq34
-overflow_add-before-then-byte_at-eq34 c = let h = get_d_inside c.args.text.now c.hashes_end-quote.result 34 (sym c.byte_at.ensures ∙ c.if-byte_at-eq34.true) (omega arith) in omega arith
+pub returns-in_default : goal.returns-in_default
+returns-in_default c =
+    let e = raw_at_law c.args.is_text c.args.before c.args.text.now c.args.from _ (c.front-hashes.ensures.counts (is "#") (λ b r l h. search rules)) in
+    grind (arith, common_steps)
 
-pub returns-then-byte_at-eq34 : goal.returns-then-byte_at-eq34
-returns-then-byte_at-eq34 c =
-    rw (raw_at_law c.args.is_text c.args.before c.args.text.now c.args.from (c.hashes_end-quote.result - c.args.from) c.hashes_end-quote.result (omega arith) (omega arith), ← c.byte_at.ensures, eq-eqb _ _ c.if-byte_at-eq34.true) c.string_opening.ensures
-
-pub returns-then-hashes-eq0 : goal.returns-then-hashes-eq0
-returns-then-hashes-eq0 c =
-    rw (raw_at_law c.args.is_text c.args.before c.args.text.now c.args.from (c.hashes_end-quote.result - c.args.from) c.hashes_end-quote.result (omega arith) (omega arith), ← c.byte_at.ensures, ne_eqb _ _ c.if-byte_at-eq34.false, eq-eqb _ _ c.if-hashes-eq0.true)
-
-pub returns : goal.returns
-returns c =
-    rw (raw_at_law c.args.is_text c.args.before c.args.text.now c.args.from (c.hashes_end-quote.result - c.args.from) c.hashes_end-quote.result (omega arith) (omega arith), ← c.byte_at.ensures, ne_eqb _ _ c.if-byte_at-eq34.false, ne_eqb _ _ c.if-hashes-eq0.false)
+pub returns-in_default-2 : goal.returns-in_default-2
+returns-in_default-2 c =
+    let e = raw_at_law c.args.is_text c.args.before c.args.text.now c.args.from _ (c.front-hashes.ensures.counts (is "#") (λ b r l h. search rules)) in
+    grind (arith, common_steps)

@@ -1,6 +1,5 @@
 use native.Mathlib.Omega.{arith}
-use mathlib.Core.Path.{◌∙◌}
-use Rattle.lexer.proofs.PartLaws.{part_is, part_same}
+use Rattle.lexer.proofs.PartLaws.{part_is}
 use Rattle.lexer.proofs.token.content_is.Goals as goal
 
 pub slice_bounds-same_content-count : goal.slice_bounds-same_content-count
@@ -14,7 +13,3 @@ slice_bounds-same_content-start c =
 pub slice_bounds-same_content-end : goal.slice_bounds-same_content-end
 slice_bounds-same_content-end c =
     let i = part_is c.args.sw c.args.token.now c.part_of-part.result c.requires c.part_of-part.ensures in omega arith
-
-pub returns : goal.returns
-returns c =
-    c.same_content.ensures ∙ part_same c.args.sw c.args.token.now c.part_of-part.result c.args.body _ c.requires c.part_of-part.ensures

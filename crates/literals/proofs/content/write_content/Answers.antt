@@ -1,26 +1,23 @@
-use native.Mathlib.Omega.{arith}
-use mathlib.Core.Path.{sym, ap, ◌∙◌}
+use Rattle.std.proofs.Common.{sym, ap, ◌∙◌, ℕ, List}
 use mathlib.Core.Option.{Option}
-use mathlib.Core.List.{List}
-use Prim.Native.Nat.{ℕ}
 use Rattle.literals.specs.Content.{content_of, placed}
 use Rattle.literals.proofs.FillLaws.{fit_refused, fit_not, fit_bytes, fit_same, fit_content}
 use Rattle.literals.proofs.content.write_content.Goals as goal
 
-pub returns-then-out-n : goal.returns-then-out-n
-returns-then-out-n c =
-    fit_not c.args.out.now (content_of c.args.sw c.args.is_text c.args.body c.args.s.now) c.in-Length.n (sym c.measure_content.ensures ∙ c.in-Length.is) (omega arith)
-
 pub fill_front-requires : goal.fill_front-requires
 fill_front-requires c =
-    fit_content c.args.out.now c.args.sw c.args.is_text c.args.body c.args.s.now c.in-Length.n (sym c.measure_content.ensures ∙ c.in-Length.is) (omega arith)
+    fit_content c.args.out.now c.args.sw c.args.is_text c.args.body c.args.s.now c.in-Some.n (sym c.measure_content.ensures ∙ c.in-Some.is) c.if-out-n.false
 
-pub returns-in-Refused : goal.returns-in-Refused
-returns-in-Refused c =
-    fit_refused c.args.out.now (content_of c.args.sw c.args.is_text c.args.body c.args.s.now) (sym c.measure_content.ensures ∙ c.in-Refused.is)
+pub returns-in-None : goal.returns-in-None
+returns-in-None c = fit_refused c.args.out.now (content_of c.args.sw c.args.is_text c.args.body c.args.s.now) (sym c.measure_content.ensures ∙ c.in-None.is)
 
-pub returns-else-out-n : goal.returns-else-out-n
-returns-else-out-n c = (
-  fit_bytes c.args.out.now (content_of c.args.sw c.args.is_text c.args.body c.args.s.now) c.in-Length.n (sym c.measure_content.ensures ∙ c.in-Length.is) (omega arith),
-  c.fill_front.ensures ∙ sym (ap (λ (o : Option (List ℕ)). placed o c.args.out.now) (fit_same c.args.out.now c.args.sw c.args.is_text c.args.body c.args.s.now c.in-Length.n (sym c.measure_content.ensures ∙ c.in-Length.is))),
-)
+pub returns-in-Some : goal.returns-in-Some
+returns-in-Some c =
+    fit_not c.args.out.now (content_of c.args.sw c.args.is_text c.args.body c.args.s.now) c.in-Some.n (sym c.measure_content.ensures ∙ c.in-Some.is) c.if-out-n.true
+
+pub returns-in-Some-2 : goal.returns-in-Some-2
+returns-in-Some-2 c =
+    let e = sym c.measure_content.ensures ∙ c.in-Some.is in (
+      fit_bytes c.args.out.now (content_of c.args.sw c.args.is_text c.args.body c.args.s.now) c.in-Some.n e c.if-out-n.false,
+      c.fill_front.ensures ∙ sym (ap (λ (o : Option (List ℕ)). placed o c.args.out.now) (fit_same c.args.out.now c.args.sw c.args.is_text c.args.body c.args.s.now c.in-Some.n e)),
+    )

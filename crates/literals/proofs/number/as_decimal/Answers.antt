@@ -2,7 +2,8 @@ use native.Mathlib.Omega.{arith}
 use mathlib.Core.Path.{sym, ap, ◌∙◌}
 use mir.Syntax.{w64}
 use mir.Facts.{to_z_pos}
-use Rattle.literals.specs.declared.number.Meaning.TheVariants.{Decimal}
+use Rattle.std.specs.declared.result.Result.TheVariants.{Ok}
+use Rattle.literals.specs.declared.number.NumberValue.TheVariants.{Decimal}
 use Rattle.literals.proofs.NumberLaws.{decimal_wide, power_wide, decimal_good, decimal_low}
 use Rattle.literals.proofs.Signed.{neg_of_fits, neg_of_read}
 use Rattle.literals.proofs.number.as_decimal.Goals as goal
@@ -19,8 +20,8 @@ overflow_sub-result c = neg_of_fits c.args.power (omega arith)
 
 pub returns-then-below : goal.returns-then-below
 returns-then-below c =
-    rw c.if-below.true (ap (Decimal c.args.minus c.args.m) (neg_of_read c.args.power (omega arith)) ∙ sym (decimal_low c.args.minus c.args.m c.args.power (omega arith) (omega arith)))
+    rw c.if-below.true (ap (λ x. Ok (Decimal c.args.minus c.args.m x)) (neg_of_read c.args.power (omega arith)) ∙ sym (decimal_low c.args.minus c.args.m c.args.power (omega arith) (omega arith)))
 
 pub returns : goal.returns
 returns c =
-    rw c.if-below.false (ap (Decimal c.args.minus c.args.m) (to_z_pos w64 (omega arith)) ∙ sym (decimal_good c.args.minus c.args.m c.args.power (omega arith) (omega arith)))
+    rw c.if-below.false (ap (λ x. Ok (Decimal c.args.minus c.args.m x)) (to_z_pos w64 (omega arith)) ∙ sym (decimal_good c.args.minus c.args.m c.args.power (omega arith) (omega arith)))

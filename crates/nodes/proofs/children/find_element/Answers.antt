@@ -1,23 +1,21 @@
-use native.Mathlib.Omega.{arith}
-use Rattle.nodes.proofs.WalkLaws.{walk_less}
-use Rattle.nodes.proofs.ChildLaws.{stands_word, element_start, element_hit, element_on, element_end}
+use Rattle.nodes.proofs.WalkLaws.{walks_start, gave}
+use Rattle.nodes.proofs.ChildLaws.{ElementWalk, element_start, element_hit, element_on, element_end}
 use Rattle.nodes.proofs.children.find_element.Goals as goal
 
-pub overflow_add-child : goal.overflow_add-child
-overflow_add-child c = let h = stands_word _ _ c.requires 8 (omega arith) in omega arith
-
 pub loop-child-init : goal.loop-child-init
-loop-child-init c = element_start _ _ _
+loop-child-init c =
+    let e = c.children_of-child-items.ensures in
+    walks_start (ElementWalk c.args.i c.args.table.now c.args.n c.args.i) _ _ _ _ c.into_iter-child-iterator.ensures.into_iter_gives e.left e.table_is e.next_is e.end_is (element_start _ _ _)
 
 pub returns-then-left-eq0 : goal.returns-then-left-eq0
-returns-then-left-eq0 c = element_hit _ _ _ _ _ _ c.loop-child.invariant c.word_of-end.ensures (omega arith) c.if-left-eq0.true
-
-pub loop-child-smaller : goal.loop-child-smaller
-loop-child-smaller c =
-    let l = walk_less _ _ _ _ _ _ (c.loop-child.invariant.of c.requires.value c.requires.node) c.word_of-end.ensures (omega arith) c.word_of-child.ensures in omega arith
+returns-then-left-eq0 c =
+    let g = gave _ _ _ _ c.next.new.self c.loop-child.invariant.2 c.in-Some.ensures.steps in
+    element_hit _ _ _ _ _ _ _ c.loop-child.invariant.3 g c.if-left-eq0.true
 
 pub loop-child-preserved : goal.loop-child-preserved
-loop-child-preserved c = element_on _ _ _ _ _ _ _ c.loop-child.invariant c.word_of-end.ensures (omega arith) c.if-left-eq0.false c.word_of-child.ensures
+loop-child-preserved c =
+    let g = gave _ _ _ _ c.next.new.self c.loop-child.invariant.2 c.in-Some.ensures.steps in
+    (c.in-Some.ensures.goes.keeps, tt, g.over, element_on _ _ _ _ _ _ _ c.loop-child.invariant.3 g c.if-left-eq0.false)
 
 pub returns : goal.returns
-returns c = element_end _ _ _ _ _ _ c.loop-child.invariant c.word_of-end.ensures (omega arith)
+returns c = element_end _ _ _ _ _ c.loop-child.invariant.3 c.loop-child.invariant.2 c.in-None.ensures.steps.2

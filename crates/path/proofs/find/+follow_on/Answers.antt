@@ -13,7 +13,7 @@ pub find_child-requires : goal.find_child-requires
 find_child-requires t c = c.requires.stands
 
 pub returns-then-e-path : goal.returns-then-e-path
-returns-then-e-path t c = follow_last _ _ _ _ _ _ _ _ c.step_end-e.ensures c.find_child.ensures _ c.in-At.is c.if-e-path.true
+returns-then-e-path t c = follow_last _ _ _ _ _ _ _ _ c.step_end-e.ensures c.find_child.ensures _ c.in-Some.is c.if-e-path.true
 
 pub overflow_add-e : goal.overflow_add-e
 overflow_add-e t c = let w = front_le is_step_byte c.args.path.now in let q = c.step_end-e.ensures in omega arith
@@ -28,15 +28,15 @@ pub follow_on-requires : goal.follow_on-requires
 follow_on-requires t c =
     let w = front_le is_step_byte c.args.path.now in let q = c.step_end-e.ensures in
     let f = fewer_steps c.args.path.now _ c.step_end-e.ensures (omega arith) in
-    (omega arith, (gone_stands _ _ _ _ _ _ c.find_child.ensures _ c.in-At.is c.requires.stands, omega (arith, c.requires.path_bound)))
+    (omega arith, (gone_stands _ _ _ _ _ _ c.find_child.ensures _ c.in-Some.is c.requires.stands, omega (arith, c.requires.path_bound)))
 
 pub returns-else-e-path : goal.returns-else-e-path
 returns-else-e-path t c =
     let w = front_le is_step_byte c.args.path.now in let q = c.step_end-e.ensures in
-    follow_next _ _ _ _ _ _ _ _ c.step_end-e.ensures c.find_child.ensures _ _ c.in-At.is (omega arith) c.follow_on.ensures
+    follow_next _ _ _ _ _ _ _ _ c.step_end-e.ensures c.find_child.ensures _ _ c.in-Some.is (omega arith) c.follow_on.ensures
 
-pub returns-in-Nothing : goal.returns-in-Nothing
-returns-in-Nothing t c = follow_missing _ _ _ _ _ _ _ _ c.step_end-e.ensures c.find_child.ensures c.in-Nothing.is
+pub returns-in-None : goal.returns-in-None
+returns-in-None t c = follow_missing _ _ _ _ _ _ _ _ c.step_end-e.ensures c.find_child.ensures c.in-None.is
 
 pub slice_bounds-follow_on-start : goal.slice_bounds-follow_on-start
 slice_bounds-follow_on-start t c = let w = front_le is_step_byte c.args.path.now in let q = c.step_end-e.ensures in omega arith

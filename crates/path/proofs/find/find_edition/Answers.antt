@@ -1,19 +1,20 @@
+use Rattle.text.specs.Refusal.{told}
 use native.Mathlib.Omega.{arith}
-use mathlib.Core.Path.{sym, ◌∙◌}
+use mathlib.Core.Path.{sym, ◌∙◌, ap}
 use Rattle.path.proofs.FollowLaws.{root_stands, found_root, found_on, found_refused}
 use Rattle.path.proofs.find.find_edition.Goals as goal
 
 pub returns-then-path-eq0 : goal.returns-then-path-eq0
 returns-then-path-eq0 c =
-    (found_root _ _ _ _ _ (sym c.read_edition.ensures.0 ∙ c.in-Taken.is) (omega arith), c.read_edition.ensures.1)
+    (found_root _ _ _ _ _ (sym c.read_edition.ensures.0 ∙ (ap told c.in-Ok.is)) (omega arith), c.read_edition.ensures.1)
 
 pub follow_on-requires : goal.follow_on-requires
-follow_on-requires c = record { stands = root_stands _ _ _ _ c.read_edition.ensures.1 (sym c.read_edition.ensures.0 ∙ c.in-Taken.is); path_bound = omega arith }
+follow_on-requires c = record { stands = root_stands _ _ _ _ c.read_edition.ensures.1 (sym c.read_edition.ensures.0 ∙ (ap told c.in-Ok.is)); path_bound = omega arith }
 
 pub returns-else-path-eq0 : goal.returns-else-path-eq0
 returns-else-path-eq0 c =
-    (found_on _ _ _ _ _ _ _ _ c.read_edition.ensures.1 (sym c.read_edition.ensures.0 ∙ c.in-Taken.is) c.if-path-eq0.false c.follow_on.ensures, c.read_edition.ensures.1)
+    (found_on _ _ _ _ _ _ _ _ c.read_edition.ensures.1 (sym c.read_edition.ensures.0 ∙ (ap told c.in-Ok.is)) c.if-path-eq0.false c.follow_on.ensures, c.read_edition.ensures.1)
 
-pub returns-in-Refused : goal.returns-in-Refused
-returns-in-Refused c =
-    (found_refused _ _ _ _ _ (sym c.read_edition.ensures.0 ∙ c.in-Refused.is), c.read_edition.ensures.1)
+pub returns-in-Err : goal.returns-in-Err
+returns-in-Err c =
+    (found_refused _ _ _ _ _ (sym c.read_edition.ensures.0 ∙ (ap told c.in-Err.is)), c.read_edition.ensures.1)

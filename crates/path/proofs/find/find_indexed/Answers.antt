@@ -11,8 +11,8 @@ pub index_of-requires : goal.index_of-requires
 index_of-requires c =
     let z = node_size _ _ _ c.requires.value c.requires.node c.word_of.ensures in let r = node_room _ _ c.requires.value c.requires.node in omega arith
 
-pub returns-in-At : goal.returns-in-At
-returns-in-At c = indexed_at _ _ _ _ _ c.word_of.ensures refl _ _ (sym c.in-At.is ∙ c.index_of.ensures) c.find_element.ensures
+pub returns-in-Some : goal.returns-in-Some
+returns-in-Some c = indexed_at _ _ _ _ _ c.word_of.ensures refl _ _ (sym c.in-Some.is ∙ c.index_of.ensures) c.find_element.ensures
 
-pub returns-in-Nothing : goal.returns-in-Nothing
-returns-in-Nothing c = indexed_none _ _ _ _ _ c.word_of.ensures refl (sym c.in-Nothing.is ∙ c.index_of.ensures)
+pub returns-in-None : goal.returns-in-None
+returns-in-None c = indexed_none _ _ _ _ _ c.word_of.ensures refl (sym c.in-None.is ∙ c.index_of.ensures)

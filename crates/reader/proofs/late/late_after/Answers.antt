@@ -11,11 +11,11 @@ find_duplicate-requires c = c.requires.keys
 pub key_refusal-requires : goal.key_refusal-requires
 key_refusal-requires c = record { have_keys = c.requires.keys.siblings (ap is_object c.in-Object.is); key_here = c.requires.key_in.here (ap is_object c.in-Object.is) }
 
-pub returns-in-At : goal.returns-in-At
-returns-in-At c = late_after_at c.find_duplicate.ensures c.in-At.is
+pub returns-in-Some : goal.returns-in-Some
+returns-in-Some c = late_after_at c.find_duplicate.ensures c.in-Some.is
 
-pub returns-in-Nowhere : goal.returns-in-Nowhere
-returns-in-Nowhere c = late_after_key c.find_duplicate.ensures c.in-Nowhere.is c.in-Object.is c.key_refusal.ensures
+pub returns-in-None : goal.returns-in-None
+returns-in-None c = late_after_key c.find_duplicate.ensures c.in-None.is c.in-Object.is c.key_refusal.ensures
 
 pub returns-in-Array : goal.returns-in-Array
 returns-in-Array c =

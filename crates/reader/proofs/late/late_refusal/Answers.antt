@@ -4,8 +4,8 @@ use Rattle.reader.proofs.late.late_refusal.Goals as goal
 pub find_duplicate-requires : goal.find_duplicate-requires
 find_duplicate-requires c = c.requires
 
-pub returns-in-At : goal.returns-in-At
-returns-in-At c = late_at c.find_duplicate.ensures c.in-At.is
+pub returns-in-Some : goal.returns-in-Some
+returns-in-Some c = late_at c.find_duplicate.ensures c.in-Some.is
 
-pub returns-in-Nowhere : goal.returns-in-Nowhere
-returns-in-Nowhere c = late_not c.find_duplicate.ensures c.in-Nowhere.is
+pub returns-in-None : goal.returns-in-None
+returns-in-None c = late_not c.find_duplicate.ensures c.in-None.is

@@ -1,5 +1,6 @@
+use Rattle.text.specs.Refusal.{told}
 use native.Mathlib.Omega.{arith}
-use mathlib.Core.Path.{refl}
+use mathlib.Core.Path.{refl, ap}
 use Prim.Native.Nat.{ℕ, ◌*◌}
 use lib.ListN.{length-replicate}
 use borrow.Author.Tests.{eq-eqb, ne_eqb}
@@ -11,17 +12,17 @@ use Rattle.reader.proofs.read.one_value.Goals as goal
 pub judge-requires : goal.judge-requires
 judge-requires c = let l = length-replicate {A = ℕ} (node_words * max_nodes) 0 in record { room = omega arith; small = omega arith }
 
-pub returns-then-start-eq0 : goal.returns-then-start-eq0
+pub returns-then-whole-eq0 : goal.returns-then-whole-eq0
 unfolding limits_alone
-returns-then-start-eq0 c =
-    alone_taken c.args.sw c.args.any c.args.text.now _ _ _ _ _ _ _ refl (tree_is c.in-Done.is c.judge.ensures) (rw (eq-eqb _ _ c.if-start-eq0.true))
+returns-then-whole-eq0 c =
+    alone_taken c.args.sw c.args.any c.args.text.now _ _ _ _ _ _ _ refl (tree_is (ap told c.in-Ok.is) c.judge.ensures) (rw (eq-eqb _ _ c.if-whole-eq0.true))
 
-pub returns-else-start-eq0 : goal.returns-else-start-eq0
+pub returns-else-whole-eq0 : goal.returns-else-whole-eq0
 unfolding limits_alone
-returns-else-start-eq0 c =
-    alone_taken c.args.sw c.args.any c.args.text.now _ _ _ _ _ _ _ refl (tree_is c.in-Done.is c.judge.ensures) (rw (ne_eqb _ _ c.if-start-eq0.false))
+returns-else-whole-eq0 c =
+    alone_taken c.args.sw c.args.any c.args.text.now _ _ _ _ _ _ _ refl (tree_is (ap told c.in-Ok.is) c.judge.ensures) (rw (ne_eqb _ _ c.if-whole-eq0.false))
 
-pub returns-in-Refused : goal.returns-in-Refused
+pub returns-in-Err : goal.returns-in-Err
 unfolding limits_alone
-returns-in-Refused c =
-    alone_refused c.args.sw c.args.any c.args.text.now _ _ _ refl (tree_not c.in-Refused.is c.judge.ensures)
+returns-in-Err c =
+    alone_refused c.args.sw c.args.any c.args.text.now _ _ _ refl (tree_not (ap told c.in-Err.is) c.judge.ensures)

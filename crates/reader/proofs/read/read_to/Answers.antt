@@ -1,3 +1,4 @@
+use Rattle.text.specs.Refusal.{told}
 use mathlib.Core.Path.{◌≡◌, ap, ◌∙◌}
 use Prim.Native.Nat.{ℕ}
 use lib.ListN.{length}
@@ -12,16 +13,16 @@ at_words depth words long nodes e l = ap (λ (n : ℕ). record { depth = depth; 
 pub judge-requires : goal.judge-requires
 judge-requires c = limit_fits _ _ _ c.node_limit.ensures
 
-pub shape_of-table-in-Done : goal.shape_of-table-in-Done
-shape_of-table-in-Done c = c.judge.auto.table ∙ c.clear.auto.table
+pub shape_of-table-in-Ok : goal.shape_of-table-in-Ok
+shape_of-table-in-Ok c = c.judge.auto.table ∙ c.clear.auto.table
 
-pub returns-in-Done : goal.returns-in-Done
-returns-in-Done c =
-    read_taken c.args.sw c.args.text.now c.args.depth (length c.args.table.now) _ (at_words _ _ _ _ c.node_limit.ensures c.clear.auto.table) _ c.clear.ensures _ _ _ _ (tree_is c.in-Done.is c.judge.ensures)
+pub returns-in-Ok : goal.returns-in-Ok
+returns-in-Ok c =
+    read_taken c.args.sw c.args.text.now c.args.depth (length c.args.table.now) _ (at_words _ _ _ _ c.node_limit.ensures c.clear.auto.table) _ c.clear.ensures _ _ _ _ (tree_is (ap told c.in-Ok.is) c.judge.ensures)
 
-pub shape_of-table-in-Refused : goal.shape_of-table-in-Refused
-shape_of-table-in-Refused c = c.clear-in-Refused.auto.table ∙ c.judge.auto.table ∙ c.clear.auto.table
+pub shape_of-table-in-Err : goal.shape_of-table-in-Err
+shape_of-table-in-Err c = c.clear-in-Err.auto.table ∙ c.judge.auto.table ∙ c.clear.auto.table
 
-pub returns-in-Refused : goal.returns-in-Refused
-returns-in-Refused c =
-    read_refused c.args.sw c.args.text.now c.args.depth (length c.args.table.now) _ (at_words _ _ _ _ c.node_limit.ensures c.clear.auto.table) _ c.clear.ensures c.judge.new.table _ _ c.judge.auto.table c.clear-in-Refused.ensures (tree_not c.in-Refused.is c.judge.ensures)
+pub returns-in-Err : goal.returns-in-Err
+returns-in-Err c =
+    read_refused c.args.sw c.args.text.now c.args.depth (length c.args.table.now) _ (at_words _ _ _ _ c.node_limit.ensures c.clear.auto.table) _ c.clear.ensures c.judge.new.table _ _ c.judge.auto.table c.clear-in-Err.ensures (tree_not (ap told c.in-Err.is) c.judge.ensures)

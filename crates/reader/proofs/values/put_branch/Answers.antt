@@ -1,7 +1,7 @@
+use Rattle.std.specs.Prelude.{Some, None}
 use mathlib.Core.Path.{refl, ap, ◌∙◌}
 use Prim.Native.Nat.{ℕ, ◌*◌}
 use lib.Seq.{sets}
-use Rattle.reader.specs.declared.duplicates.Duplicate.TheVariants as D
 use Rattle.reader.specs.Tree.{node_words}
 use Rattle.reader.specs.Internal.Values.{row_words, branch_progress, branch_table}
 use Rattle.reader.proofs.DuplicateLaws.{first_as}
@@ -13,11 +13,11 @@ find_duplicate-requires c = c.requires.keys
 pub put_row-requires : goal.put_row-requires
 put_row-requires c = c.requires.row_room
 
-pub returns-in-At : goal.returns-in-At
+pub returns-in-Some : goal.returns-in-Some
 unfolding branch_progress branch_table
-returns-in-At c = record { found = D.At _; first_found = first_as c.find_duplicate.ensures c.in-At.is; answered = refl; wrote = refl }
+returns-in-Some c = record { found = Some _; first_found = first_as c.find_duplicate.ensures c.in-Some.is; answered = refl; wrote = refl }
 
-pub returns-in-Nowhere : goal.returns-in-Nowhere
+pub returns-in-None : goal.returns-in-None
 unfolding branch_progress branch_table
-returns-in-Nowhere c =
-    record { found = D.Nowhere; first_found = first_as c.find_duplicate.ensures c.in-Nowhere.is; answered = refl; wrote = c.put_row.ensures ∙ ap (λ (k : ℕ). sets c.args.table.now (node_words * c.args.due.spot.node) (row_words k c.args.due.spot.parent c.args.due.label c.args.stop c.args.children.next c.args.children.count 0 0)) c.kind_word.ensures }
+returns-in-None c =
+    record { found = None; first_found = first_as c.find_duplicate.ensures c.in-None.is; answered = refl; wrote = c.put_row.ensures ∙ ap (λ (k : ℕ). sets c.args.table.now (node_words * c.args.due.spot.node) (row_words k c.args.due.spot.parent c.args.due.label c.args.stop c.args.children.next c.args.children.count 0 0)) c.kind_word.ensures }

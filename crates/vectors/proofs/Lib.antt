@@ -1,2 +1,0 @@
--- The laws by which this crate's functions are safe.
-pub mod SignedLaws
