@@ -1,5 +1,6 @@
 -- A content written in one go: what the loop of `copy_content` knows.
 -- Assumes nothing.
+use Rattle.std.specs.Prelude.{Some, None}
 use mathlib.Core.Path.{◌≡◌, refl, sym, ap, ◌∙◌}
 use Prim.Native.Nat.{ℕ, ◌+◌, ◌-◌, ◌<◌, ◌≤◌}
 use native.Mathlib.Omega.{arith}
@@ -88,7 +89,7 @@ module _ {sw : Switches} {first : Decoder} {s : List ℕ} {size : ℕ} {out : Li
         })
 
     -- no room
-    pub copy_long : (n : ℕ) → n ≡ length (listed d.out) → length out < k + n → (body : Body) → first ≡ start_of body → Copied (content sw body s) at out (length out + 1)
+    pub copy_long : (n : ℕ) → n ≡ length (listed d.out) → length out < k + n → (body : Body) → first ≡ start_of body → Copied (content sw body s) at out None
     unfolding content
     copy_long n q r body f =
         record {
@@ -98,10 +99,10 @@ module _ {sw : Switches} {first : Decoder} {s : List ℕ} {size : ℕ} {out : Li
               let l = length-append (drop at (take k out)) (listed d.out) in
               let u = written in
               let v = A.ahead in
-              record { fits = λ z. let y : ⊥ = omega arith in absurd y; long = λ z. omega arith };
+              record { is = omega arith };
         }
 
-  pub copy_end : (body : Body) → first ≡ start_of body → length s ≤ i → Copied (content sw body s) at out k
+  pub copy_end : (body : Body) → first ≡ start_of body → length s ≤ i → Copied (content sw body s) at out (Some k)
   unfolding content
   copy_end body f h =
       record {
@@ -113,7 +114,7 @@ module _ {sw : Switches} {first : Decoder} {s : List ℕ} {size : ℕ} {out : Li
             let v = A.ahead in
             let g = ap (length {A = ℕ}) a in
             let o = A.fits in
-            record { fits = λ z. (omega arith, a); long = λ z. let y : ⊥ = omega arith in absurd y };
+            record { is = (omega arith, omega arith, a) };
       }
 
 -- a byte that stands for itself, as a step of the decoder

@@ -1,7 +1,8 @@
 -- What only the contracts inside the crate cite, of contents: nothing here must be believed by a reader.
 -- Assumes nothing.
-use Rattle.std.specs.Prelude.{ℕ, zero, suc, ◌+◌, ◌-◌, ◌*◌, ◌/◌, ◌<◌, ◌≤◌, ◌≡◌, Bool, true, cond, List, [], ◌∷◌, length, take, drop, get_or}
+use Rattle.std.specs.Prelude.{ℕ, zero, suc, ◌+◌, ◌-◌, ◌*◌, ◌/◌, ◌<◌, ◌≤◌, ◌≡◌, Bool, true, cond, List, [], ◌∷◌, length, take, drop, get_or, Some, None}
 use Rattle.std.proofs.Math.Option.{Option, none, some}
+use Rattle.std.specs.declared.option.Option as Rust
 use Rattle.text.specs.declared.switches.Switches.{Switches}
 use Rattle.text.specs.declared.few.Few.{Few}
 use Rattle.text.specs.declared.few.Few.TheVariants.{One}
@@ -43,13 +44,17 @@ unfoldable pub HasRoom : Option (List ℕ) → (room : ℕ) → Type 0
 HasRoom none room = ⊥
 HasRoom (some bytes) room = length bytes ≤ room
 
--- a content w that was written from `at` on ends at r; if it has no room, r lies behind the output
-pub record CopiedAs (w : List ℕ) (at : ℕ) (out : List ℕ) (r : ℕ) : Type 0 where
-  pub fits : r ≤ length out → (r ≡ at + length w) × (drop at (take r out) ≡ w)
-  pub long : length out < r → length out < at + length w
+-- where a content w ends that was written from `at` on; or that it has no room
+abbrev pub CopyIs : (w : List ℕ) (at : ℕ) (out : List ℕ) → Rust.Option ℕ → Type 0
+CopyIs w at out (Some r) = (r ≡ at + length w) × (r ≤ length out) × (drop at (take r out) ≡ w)
+CopyIs w at out None = length out < at + length w
+
+-- the same as a record
+pub record CopiedAs (w : List ℕ) (at : ℕ) (out : List ℕ) (r : Rust.Option ℕ) : Type 0 where
+  pub is : CopyIs w at out r
 
 -- the same of a body, if it has a content
-pub record Copied (o : Option (List ℕ)) (at : ℕ) (out : List ℕ) (r : ℕ) : Type 0 where
+pub record Copied (o : Option (List ℕ)) (at : ℕ) (out : List ℕ) (r : Rust.Option ℕ) : Type 0 where
   pub is : (w : List ℕ) → o ≡ some w → CopiedAs w at out r
 
 -- ---- bytes that stand for themselves

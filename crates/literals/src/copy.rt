@@ -28,9 +28,9 @@ pub(crate) fn is_own_byte(state: Decoder, b: u8) -> bool
     }
 }
 
-// Writes a body's content into the output from `at` on, and answers where it ends; if it has no room, one more than the output's
-// length. Public for the reader only, which lends it bodies that have a content.
-pub fn copy_content(sw: Switches, body: Body, s: &[u8], out: &mut [u8], at: usize) -> usize
+// Writes a body's content into the output from `at` on, and answers where it ends; nothing if it has no room. Public for the reader only,
+// which lends it bodies that have a content.
+pub fn copy_content(sw: Switches, body: Body, s: &[u8], out: &mut [u8], at: usize) -> Option<usize>
     requires { at ≤ length out.old }
     ensures { Copied (content sw body s.now) at out.new result }
 {
@@ -39,7 +39,7 @@ pub fn copy_content(sw: Switches, body: Body, s: &[u8], out: &mut [u8], at: usiz
     for b in s {
         if is_own_byte(state, *b) {
             if end == out.len() {
-                return out.len() + 1;
+                return None;
             }
             out[end] = *b;
             end += 1;
@@ -47,12 +47,12 @@ pub fn copy_content(sw: Switches, body: Body, s: &[u8], out: &mut [u8], at: usiz
             let step = decode_step(sw, state, *b);
             let size = step.out.len();
             if out.len() - end < size {
-                return out.len() + 1;
+                return None;
             }
             state = step.state;
             step.out.put(out, end);
             end += size;
         }
     }
-    end
+    Some(end)
 }

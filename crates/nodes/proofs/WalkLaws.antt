@@ -1,9 +1,14 @@
 -- A node's children in a table: the first is the node after it, the next one after a child is named by its word 8; and the walk over them,
 -- which a loop keeps.
 -- Assumes nothing.
+use Rattle.std.specs.Prelude.{Some}
+use Rattle.std.specs.declared.option.Option as Rust
+use Rattle.nodes.specs.Children.{InTable}
 use mathlib.Core.Path.{◌≡◌, refl, sym, ap, ◌∙◌, subst}
 use Prim.Native.Nat.{ℕ, zero, suc, ◌+◌, ◌*◌, ◌≤◌, ◌<◌}
 use native.Mathlib.Omega.{arith}
+use mathlib.Core.Logic.{∥∥₁_elim, ∥∥₁_map}
+use native.Mathlib.Bridge.{le_prop}
 use mathlib.Core.Option.{some}
 use mathlib.Core.List.{List, [], ◌∷◌}
 use lib.ListN.{length}
@@ -14,7 +19,8 @@ use Rattle.reader.proofs.TableLaws.{length_rows}
 use Rattle.reader.proofs.RowLaws.{size_pos}
 use Rattle.nodes.specs.Nodes.{children_of, Numbered, nth}
 use Rattle.nodes.specs.Stands.{WordsAt, Node, Stands}
-use Rattle.nodes.specs.Children.{Left}
+use Rattle.nodes.specs.Left.{Left}
+use Rattle.nodes.specs.declared.node.Node as CN
 use Rattle.nodes.specs.declared.children.Children.{Children}
 use Rattle.nodes.proofs.WordLaws.{some_is, none_is, words_left, words_right, heads, word_parent, word_next}
 
@@ -154,21 +160,25 @@ walk_next P Q table n x y H e q =
 -- ---- the walk as the code's iterator makes it
 
 -- the children of the node n are left
-pub left_all : (table : List ℕ) (n end : ℕ) → Stands table n → end ≡ word_of table n 8 → Left table (n + 1) end
-left_all table n end S e =
+left_all : (table : List ℕ) (n end : ℕ) → end ≡ word_of table n 8 → Stands table n → Left table (n + 1) end
+left_all table n end e S =
     let A = ahead_all table n S.value S.node in
     let z = A.ends in
     record { parent = n; rest = children_of S.value; words = A.words; room = A.room; ends = omega arith }
 
--- a step over the first of those that are left
-pub record LeftOn (table : List ℕ) (x y end : ℕ) : Type 0 where
+pub all_left : (table : List ℕ) (n end : ℕ) → ∥ Stands table n ∥₁ → end ≡ word_of table n 8 → ∥ Left table (n + 1) end ∥₁
+all_left table n end S e = ∥∥₁_map S (left_all table n end e)
+
+-- the first of those that are left, and a step over it
+record LeftOn (table : List ℕ) (x y end : ℕ) : Type 0 where
+  pub stands : Stands table x
   pub up : x < y
   pub within : y ≤ end
   pub left : Left table y end
 
-pub left_on : (table : List ℕ) (x y end : ℕ) → Left table x end → x < end → y ≡ word_of table x 8 → LeftOn table x y end
+left_on : (table : List ℕ) (x y end : ℕ) → x < end → y ≡ word_of table x 8 → Left table x end → LeftOn table x y end
 unfolding rows size
-left_on table x y end L h e = by L.rest L.words L.room L.ends
+left_on table x y end h e L = by L.rest L.words L.room L.ends
   where
     by : (f : Forest) → WordsAt table (node_words * x) (rows_all L.parent x f) → node_words * (x + sizes f) ≤ length table → x + sizes f ≡ end → LeftOn table x y end
     by nil w r z = absurd (omega arith)
@@ -178,6 +188,7 @@ left_on table x y end L h e = by L.rest L.words L.room L.ends
         let p = size_pos t in
         let l = length_rows L.parent x t in
         record {
+          stands = record { value = t; node = N };
           up = omega arith;
           within = omega arith;
           left =
@@ -190,15 +201,28 @@ left_on table x y end L h e = by L.rest L.words L.room L.ends
               });
         }
 
+module _ (table : List ℕ) (x y end : ℕ) (h : x < end) (e : y ≡ word_of table x 8) (L : ∥ Left table x end ∥₁) where
+  pub next_up : x < y
+  next_up = ∥∥₁_elim L le_prop (λ l. (left_on table x y end h e l).up)
+
+  pub next_within : y ≤ end
+  next_within = ∥∥₁_elim L le_prop (λ l. (left_on table x y end h e l).within)
+
+  pub next_left : ∥ Left table y end ∥₁
+  next_left = ∥∥₁_map L (λ l. (left_on table x y end h e l).left)
+
+pub next_stands : (table : List ℕ) (x end : ℕ) → x < end → ∥ Left table x end ∥₁ → ∥ Stands table x ∥₁
+next_stands table x end h L = ∥∥₁_map L (λ l. (left_on table x (word_of table x 8) end h refl l).stands)
+
 -- the iterator walks over the children of the node n
 pub record WalksOver (table : List ℕ) (n : ℕ) (s : Children) : Type 0 where
   pub table_is : s.table.now ≡ table
   pub end_is : s.end ≡ word_of table n 8
 
 -- what a loop on the iterator begins with, where P is so of the first child
-pub walks_start : (P : ℕ → Type 0) (table : List ℕ) (n : ℕ) (r s : Children) → s ≡ r → Left r.table.now r.next r.end → r.table.now ≡ table → r.next ≡ n + 1
-    → r.end ≡ word_of table n 8 → P (n + 1) → Left s.table.now s.next s.end × Unit {0} × WalksOver table n s × P s.next
-walks_start P table n r s e l t x z p = rw e (l, tt, record { table_is = t; end_is = z }, subst P (sym x) p)
+pub walks_start : (P : ℕ → Type 0) (table : List ℕ) (n : ℕ) (r s : Children) → s ≡ r → r.table.now ≡ table → r.next ≡ n + 1 → r.end ≡ word_of table n 8 → P (n + 1)
+    → WalksOver table n s × P s.next
+walks_start P table n r s e t x z p = rw e (record { table_is = t; end_is = z }, subst P (sym x) p)
 
 -- it gave the child x, and goes on
 pub record Gave (table : List ℕ) (n x : ℕ) (s t : Children) : Type 0 where
@@ -208,13 +232,20 @@ pub record Gave (table : List ℕ) (n x : ℕ) (s t : Children) : Type 0 where
   pub on : t.next ≡ word_of table x 8
   pub over : WalksOver table n t
 
-pub gave : (table : List ℕ) (n x : ℕ) (s t : Children) → WalksOver table n s
-    → (t.table.now ≡ s.table.now) × (t.end ≡ s.end) × ((x ≡ s.next) × (x < s.end) × (t.next ≡ word_of s.table.now x 8)) → Gave table n x s t
-gave table n x s t O h =
-    record {
-      at = sym h.2.0;
-      before = h.2.1;
-      ends = O.end_is;
-      on = h.2.2 ∙ ap (λ (l : List ℕ). word_of l x 8) O.table_is;
-      over = record { table_is = h.0 ∙ O.table_is; end_is = h.1 ∙ O.end_is };
-    }
+pub gave : (table : List ℕ) (n : ℕ) (x : CN.Node) (s t : Children) → WalksOver table n s
+    → (t.table.now ≡ s.table.now) × (t.end ≡ s.end) × ((x.table.now ≡ s.table.now) × (x.number ≡ s.next) × (x.number < s.end) × (t.next ≡ word_of s.table.now x.number 8))
+    → (x.table.now ≡ table) × Gave table n x.number s t
+gave table n x s t O h = (
+  h.2.0 ∙ O.table_is,
+  record {
+    at = sym h.2.1;
+    before = h.2.2;
+    ends = O.end_is;
+    on = h.2.3 ∙ ap (λ (l : List ℕ). word_of l x.number 8) O.table_is;
+    over = record { table_is = h.0 ∙ O.table_is; end_is = h.1 ∙ O.end_is };
+  },
+)
+
+-- a child that was handed out is one of the table
+pub handed : (table : List ℕ) (r : Rust.Option CN.Node) (x : CN.Node) → InTable table r → r ≡ Some x → x.table.now ≡ table
+handed table r x T e = subst (InTable table) e T

@@ -6,6 +6,8 @@ use Prim.Native.Nat.{ℕ, zero, suc, ◌+◌, ◌-◌, ◌*◌, ◌≤◌, ◌<�
 use native.Mathlib.Numerals.{add-one}
 use native.Mathlib.Omega.{arith}
 use mathlib.Core.Bool.{Bool, true, false, cond}
+use mathlib.Core.Logic.{◌⊎◌, ⊎_elim, ∥∥₁_elim}
+use native.Mathlib.Bridge.{le_prop}
 use mathlib.Core.Option.{Option, none, some}
 use mathlib.Core.List.{List, [], ◌∷◌}
 use lib.Dec.{ltb}
@@ -18,6 +20,10 @@ use Rattle.text.specs.declared.switches.Switches.{Switches}
 use Rattle.text.specs.Bytes.{front}
 use Rattle.text.specs.Refusal.{Refusal, refusal}
 use Rattle.lexer.proofs.ItemCases.{front_le}
+use Rattle.reader.specs.declared.kinds.NodeKind.{NodeKind}
+use Rattle.reader.specs.declared.kinds.NodeKind.TheVariants as Named
+use Rattle.reader.specs.Kinds.{number_of_kind}
+use Rattle.reader.proofs.KindLaws.{number_tells}
 use Rattle.reader.specs.Tree.{Tree, leaf, branch, Forest, nil, cons, size, sizes, kind_number, node_words}
 use Rattle.reader.specs.declared.tree.Kind.TheVariants.{Object, Array, Tuple}
 use Rattle.reader.specs.Syntax.{Outcome, taken, refused}
@@ -50,11 +56,15 @@ element_past i n (leaf h s) l = nth_past i (suc n) nil (omega arith)
 element_past i n (branch h k f) l = nth_past i (suc n) f (omega arith)
 
 -- a node's size by its word 8
-pub node_size : (table : List ℕ) (n end : ℕ) (t : Tree) → Node table n t → end ≡ word_of table n 8 → end ≡ n + size t
+node_size : (table : List ℕ) (n end : ℕ) (t : Tree) → Node table n t → end ≡ word_of table n 8 → end ≡ n + size t
 node_size table n end t N e = e ∙ word_next table n t N
 
-pub node_room : (table : List ℕ) (n : ℕ) (t : Tree) → Node table n t → node_words * (n + size t) ≤ length table
-node_room table n t N = N.room
+-- the nodes of a value end after its own, and within the table
+pub node_up : (table : List ℕ) (n end : ℕ) → ∥ Stands table n ∥₁ → end ≡ word_of table n 8 → n ≤ end
+node_up table n end S e = ∥∥₁_elim S le_prop (λ s. let z = node_size table n end s.value s.node e in omega arith)
+
+pub node_room : (table : List ℕ) (n end : ℕ) → ∥ Stands table n ∥₁ → end ≡ word_of table n 8 → node_words * end ≤ length table
+node_room table n end S e = ∥∥₁_elim S le_prop (λ s. let z = node_size table n end s.value s.node e in let r = s.node.room in omega arith)
 
 index_is : (limit i : ℕ) (o : Option ℕ) → Some i ≡ index_answer (below limit o) → o ≡ some i
 unfolding below index_answer
@@ -113,17 +123,29 @@ module _ (sw : Switches) (text step : List ℕ) (n : ℕ) where
   of_other (branch h Array f) a b c = absurd (b refl)
   of_other (branch h Tuple f) a b c = absurd (c refl)
 
-  module _ (table : List ℕ) (k : ℕ) (K : KindIs table n k) where
-    pub child_object : (r : Rust.Option ℕ) → k ≡ 1 → MemberIs sw text step table n r → ChildIs sw text step table n r
-    child_object r e M = record { is = λ t N. M.is t N ∙ ap childAnswer (of_object t (let q = K.is t N in omega arith)) }
+  module _ (table : List ℕ) (k : NodeKind) (K : KindIs table n (number_of_kind k)) where
+    pub child_object : (r : Rust.Option ℕ) → k ≡ Named.Object → MemberIs sw text step table n r → ChildIs sw text step table n r
+    child_object r e M = record { is = λ t N. M.is t N ∙ ap childAnswer (of_object t (sym (K.is t N) ∙ ap number_of_kind e)) }
 
-    pub child_array : (r : Rust.Option ℕ) → 2 ≤ k → k ≤ 3 → IndexedIs step table n r → ChildIs sw text step table n r
-    child_array r e g M = record { is = λ t N. M.is t N ∙ ap childAnswer (of_array t (let q = K.is t N in omega arith) (let q = K.is t N in omega arith)) }
+    pub child_array : (r : Rust.Option ℕ) → (k ≡ Named.Array) ⊎ (k ≡ Named.Tuple) → IndexedIs step table n r → ChildIs sw text step table n r
+    child_array r e M =
+        record {
+          is =
+              λ t N.
+              let q = K.is t N in
+              M.is t N ∙ ap childAnswer
+              (⊎_elim (λ a. let z = ap number_of_kind a in of_array t (omega arith) (omega arith)) (λ a. let z = ap number_of_kind a in of_array t (omega arith) (omega arith)) e);
+        }
 
-    pub child_other : (k ≡ 1 → ⊥) → (k ≡ 2 → ⊥) → (k ≡ 3 → ⊥) → ChildIs sw text step table n None
+    pub child_other : (k ≡ Named.Object → ⊥) → (k ≡ Named.Array → ⊥) → (k ≡ Named.Tuple → ⊥) → ChildIs sw text step table n None
     unfolding childAnswer
     child_other a b c =
-        record { is = λ t N. let q = K.is t N in ap childAnswer (of_other t (λ e. a (q ∙ e)) (λ e. b (q ∙ e)) (λ e. c (q ∙ e))) }
+        record {
+          is =
+              λ t N.
+              let q = K.is t N in
+              ap childAnswer (of_other t (λ e. a (number_tells k Named.Object (q ∙ e))) (λ e. b (number_tells k Named.Array (q ∙ e))) (λ e. c (number_tells k Named.Tuple (q ∙ e))));
+        }
 
   -- the child that a step leads to is one
   indexed_among : (t : Tree) (o : Option ℕ) (c : Numbered) → indexed n t o ≡ some c → Among (suc n) (children_of t) c
@@ -154,10 +176,6 @@ module _ (sw : Switches) (text step table : List ℕ) (n : ℕ) (r : Rust.Option
         is = g.1;
         node = child_stands table n t (numbered m g.0) N (child_among sw text step n t (numbered m g.0) g.1);
       }
-
-  -- where a step has led to, a value stands
-  pub gone_stands : (m : ℕ) → r ≡ Some m → Stands table n → Stands table m
-  gone_stands m e S = let G = gone m e S.value S.node in record { value = G.value; node = G.node }
 
   pub no_child : r ≡ None → (t : Tree) → Node table n t → child sw text n t step ≡ none
   no_child e t N = answer_nothing (child sw text n t step) (sym (K.is t N) ∙ e)

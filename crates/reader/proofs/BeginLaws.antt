@@ -3,11 +3,9 @@
 use Rattle.std.specs.Prelude.{Some, None}
 use mathlib.Core.Path.{◌≡◌, refl, sym, ap, ◌∙◌, subst}
 use Prim.Native.Nat.{ℕ, suc, ◌+◌, ◌-◌, ◌/◌, ◌%◌, ◌≤◌, ◌<◌}
-use native.Mathlib.Nat.{add-zero}
 use native.Mathlib.Omega.{arith}
 use mathlib.Core.Bool.{Bool, true, false, cond, false≢true}
 use mathlib.Core.List.{List, [], ◌∷◌}
-use lib.Dec.{leb}
 use lib.IntN.{ℤ}
 use lib.ListN.{length, take, drop, get_or, length-drop}
 use lib.Seq.{drop-cons}
@@ -19,50 +17,51 @@ use Rattle.lexer.specs.declared.item.TokenKind.TheVariants as K
 use Rattle.lexer.specs.Token as L
 use Rattle.lexer.specs.Token.{Form}
 use Rattle.lexer.specs.Answer.{kind_of}
+use Rattle.reader.specs.declared.kinds.NodeKind.TheVariants as N
 use Rattle.reader.specs.declared.tree.Words.{Words}
 use Rattle.reader.specs.declared.tree.Begin.{Begin}
 use Rattle.std.specs.declared.option.Option as Rust
 use Rattle.reader.specs.declared.tree.Begin.TheVariants as B
 use Rattle.reader.specs.declared.tree.Kind.TheVariants.{Object, Array, Tuple}
 use Rattle.reader.specs.Tree as T
-use Rattle.reader.specs.Tree.{Span, scalar_number, scalar_words, twos_complement, plus1000}
+use Rattle.reader.specs.Tree.{Span, scalar_words, twos_complement, plus1000}
 use Rattle.reader.specs.Syntax.{Begins, begins, container, scalar, identifier, nothing, mark_begins, word_begins, opens_with_capital, span_of}
-use Rattle.reader.specs.Internal.Tokens.{form_at, token_at, TokenAt, leaf_of, BeginIs, Begun, mark_begin, word_begin, DecimalFits}
+use Rattle.reader.specs.Internal.Tokens.{form_at, token_at, TokenAt, scalar_kind, leaf_of, BeginIs, Begun, mark_begin, word_begin, DecimalFits}
 use Rattle.reader.proofs.KeepLaws.{Keeps, at_keeps}
 
 -- ---- a word that opens with a capital
 
-pub capital_none : (s : List ℕ) → length s ≡ 0 → false ≡ opens_with_capital s
+pub capital_in : (s : List ℕ) → 1 ≤ length s → 65 ≤ get_or s 0 0 → get_or s 0 0 ≤ 90 → true ≡ opens_with_capital s
 unfolding opens_with_capital
-capital_none [] e = refl
-capital_none (b ∷ s) e = absurd (omega arith)
+capital_in [] l h k = absurd (omega arith)
+capital_in (b ∷ s) l h k = rw (le-leb 65 b h, le-leb b 90 k)
+
+pub capital_none : (s : List ℕ) → length s < 1 → false ≡ opens_with_capital s
+unfolding opens_with_capital
+capital_none [] l = refl
+capital_none (b ∷ s) l = absurd (omega arith)
 
 pub capital_low : (s : List ℕ) → get_or s 0 0 < 65 → false ≡ opens_with_capital s
 unfolding opens_with_capital
 capital_low [] h = refl
 capital_low (b ∷ s) h = rw (lt-leb 65 b h)
 
-pub capital_from : (s : List ℕ) → 65 ≤ get_or s 0 0 → leb (get_or s 0 0) 90 ≡ opens_with_capital s
+pub capital_high : (s : List ℕ) → 90 < get_or s 0 0 → false ≡ opens_with_capital s
 unfolding opens_with_capital
-capital_from [] h = absurd (omega arith)
-capital_from (b ∷ s) h = rw (le-leb 65 b h)
+capital_high [] h = refl
+capital_high (b ∷ s) h = let k : 65 ≤ b = omega arith in rw (le-leb 65 b k, lt-leb b 90 h)
 
 -- ---- the words of a number
 
 pub integer_words : (n : ℕ) (z : ℤ) → n ≡ twos_complement z
-    → ◌≡◌ {A = Words} (record { kind = 6; low = n % 4294967296; high = n / 4294967296; extra = 0 }) (leaf_of (T.integer z))
-unfolding leaf_of scalar_number scalar_words
+    → ◌≡◌ {A = Words} (record { kind = N.Integer; low = n % 4294967296; high = n / 4294967296; extra = 0 }) (leaf_of (T.integer z))
+unfolding leaf_of scalar_kind scalar_words
 integer_words n z e = rw e
 
-module _ (minus : Bool) (m : ℕ) (p : ℤ) (q : ℕ) (q-is : q ≡ plus1000 p) where
-  pub minus_words : minus ≡ true
-      → ◌≡◌ {A = Words} (record { kind = 7; low = m % 4294967296; high = m / 4294967296 + 2147483648; extra = q }) (leaf_of (T.decimal minus m p))
-  unfolding leaf_of scalar_number scalar_words
-  minus_words e = rw (e, q-is)
-
-  pub plain_words_law : minus ≡ false → ◌≡◌ {A = Words} (record { kind = 7; low = m % 4294967296; high = m / 4294967296; extra = q }) (leaf_of (T.decimal minus m p))
-  unfolding leaf_of scalar_number scalar_words
-  plain_words_law e = rw (e, q-is, add-zero (m / 4294967296))
+pub decimal_words : (minus : Bool) (m : ℕ) (p : ℤ) (x q : ℕ) → x ≡ cond minus 2147483648 0 → q ≡ plus1000 p
+    → ◌≡◌ {A = Words} (record { kind = N.Decimal; low = m % 4294967296; high = m / 4294967296 + x; extra = q }) (leaf_of (T.decimal minus m p))
+unfolding leaf_of scalar_kind scalar_words
+decimal_words minus m p x q e q-is = rw (e, q-is)
 
 -- ---- what something begins, as the code has it
 
@@ -117,21 +116,21 @@ module _ (span : Span) where
   word_form b s more (L.integer z) k e = cc
   word_form b s more (L.decimal minus m p) k e = cc
 
-  text_form : (f : Form) (n : ℕ) → kind_of f ≡ K.Text n → Some (B.Scalar (record { kind = 4; low = span.start; high = span.stop; extra = n })) ≡ begin_by (begins span f)
-  unfolding kind_of begins begin_by leaf_of scalar_number scalar_words
+  text_form : (f : Form) (n : ℕ) → kind_of f ≡ K.Text n → Some (B.Scalar (record { kind = N.Text; low = span.start; high = span.stop; extra = n })) ≡ begin_by (begins span f)
+  unfolding kind_of begins begin_by leaf_of scalar_kind scalar_words
   text_form (L.mark x) n e = cc
   text_form (L.word w) n e = cc
-  text_form (L.text c) n e = let h : n ≡ length c = cc in ap (λ (k : ℕ). Some (B.Scalar (record { kind = 4; low = span.start; high = span.stop; extra = k }))) h
+  text_form (L.text c) n e = let h : n ≡ length c = cc in ap (λ (k : ℕ). Some (B.Scalar (record { kind = N.Text; low = span.start; high = span.stop; extra = k }))) h
   text_form (L.bytes c) n e = cc
   text_form (L.integer z) n e = cc
   text_form (L.decimal minus m p) n e = cc
 
-  bytes_form : (f : Form) (n : ℕ) → kind_of f ≡ K.Bytes n → Some (B.Scalar (record { kind = 5; low = span.start; high = span.stop; extra = n })) ≡ begin_by (begins span f)
-  unfolding kind_of begins begin_by leaf_of scalar_number scalar_words
+  bytes_form : (f : Form) (n : ℕ) → kind_of f ≡ K.Bytes n → Some (B.Scalar (record { kind = N.Bytes; low = span.start; high = span.stop; extra = n })) ≡ begin_by (begins span f)
+  unfolding kind_of begins begin_by leaf_of scalar_kind scalar_words
   bytes_form (L.mark x) n e = cc
   bytes_form (L.word w) n e = cc
   bytes_form (L.text c) n e = cc
-  bytes_form (L.bytes c) n e = let h : n ≡ length c = cc in ap (λ (k : ℕ). Some (B.Scalar (record { kind = 5; low = span.start; high = span.stop; extra = k }))) h
+  bytes_form (L.bytes c) n e = let h : n ≡ length c = cc in ap (λ (k : ℕ). Some (B.Scalar (record { kind = N.Bytes; low = span.start; high = span.stop; extra = k }))) h
   bytes_form (L.integer z) n e = cc
   bytes_form (L.decimal minus m p) n e = cc
 
@@ -220,15 +219,15 @@ module _ (sw : Switches) (s : List ℕ) (start stop : ℕ) where
         ∙ ap begin_by
         (sym (word_form (span_of (token_at sw s start stop)) (get_or s start 0) (drop (suc start) s) (stop - suc start) (form_at sw s start) kept (t.kind ∙ e))))
 
-    pub text_begun : (n : ℕ) → k ≡ K.Text n → Begun sw s start stop (Some (B.Scalar (record { kind = 4; low = start; high = stop; extra = n })))
+    pub text_begun : (n : ℕ) → k ≡ K.Text n → Begun sw s start stop (Some (B.Scalar (record { kind = N.Text; low = start; high = stop; extra = n })))
     unfolding span_of
     text_begun n e =
-        begun (Some (B.Scalar (record { kind = 4; low = start; high = stop; extra = n }))) (text_form (span_of (token_at sw s start stop)) (form_at sw s start) n (t.kind ∙ e))
+        begun (Some (B.Scalar (record { kind = N.Text; low = start; high = stop; extra = n }))) (text_form (span_of (token_at sw s start stop)) (form_at sw s start) n (t.kind ∙ e))
 
-    pub bytes_begun : (n : ℕ) → k ≡ K.Bytes n → Begun sw s start stop (Some (B.Scalar (record { kind = 5; low = start; high = stop; extra = n })))
+    pub bytes_begun : (n : ℕ) → k ≡ K.Bytes n → Begun sw s start stop (Some (B.Scalar (record { kind = N.Bytes; low = start; high = stop; extra = n })))
     unfolding span_of
     bytes_begun n e =
-        begun (Some (B.Scalar (record { kind = 5; low = start; high = stop; extra = n }))) (bytes_form (span_of (token_at sw s start stop)) (form_at sw s start) n (t.kind ∙ e))
+        begun (Some (B.Scalar (record { kind = N.Bytes; low = start; high = stop; extra = n }))) (bytes_form (span_of (token_at sw s start stop)) (form_at sw s start) n (t.kind ∙ e))
 
     pub integer_begun : (z : ℤ) (l : Words) → k ≡ K.Integer z → l ≡ leaf_of (T.integer z) → Begun sw s start stop (Some (B.Scalar l))
     unfolding begin_by

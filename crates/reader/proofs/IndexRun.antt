@@ -8,14 +8,13 @@ use mathlib.Core.Bool.{Bool, true, false}
 use mathlib.Core.List.{List, [], ◌∷◌, ◌++◌}
 use lib.ListN.{get_or, set, take, replicate, length-replicate}
 use Rattle.text.specs.declared.switches.Switches.{Switches}
-use Rattle.reader.specs.declared.index.Lookup.{Lookup}
-use Rattle.reader.specs.declared.index.Lookup.TheVariants as L
+use Rattle.std.specs.declared.option.Option as Rust
+use Rattle.reader.specs.declared.index.Place.{Place}
 use Rattle.reader.specs.Reading.{max_nodes, word_of}
 use Rattle.reader.specs.Syntax.{holds}
 use Rattle.reader.specs.Internal.Values.{KeyAt, KeyHere, SiblingKeys, HaveKeys, FoundKey, DuplicateAt}
-use Rattle.reader.specs.Internal.Index.{key_bytes, is_short, prefixed, IsPrefixed, KeyWritten, cells, Vacant, Indexed, HasIndex, LookupIs, LookedUp}
+use Rattle.reader.specs.Internal.Index.{key_bytes, IsPrefixed, ContentIn, KeyWritten, cells, Vacant, Indexed, HasIndex, PlaceIs, LookedUp}
 use Rattle.reader.proofs.DuplicateLaws.{Past, past_start, past_row, past_key, past_have_keys, past_on, past_hit, past_end}
-use Rattle.reader.proofs.PrefixLaws.{is_short_law, is_long}
 use Rattle.reader.proofs.IndexLaws.{index_start, index_later, index_long, comes_before, index_more}
 
 -- the walk has come to x, no key so far is a duplicate, and the index has them all
@@ -45,18 +44,22 @@ grown_start {sw} {s} {tab} {links} {tests} {first} {m} H h k E =
     let f = keys_forward sw s tab first m H.keys H.siblings in
     record { seen = []; past = past_start sw s tab first m H; index = index_start sw s tab links tests first E h (omega arith) }
 
-module _ {sw : Switches} {s tab links tests : List ℕ} {first x m : ℕ} (G : Grown sw s tab links tests first x m) where
-  pub grown_keys : HaveKeys sw s tab first x
-  grown_keys = past_have_keys sw s tab first m x G.seen G.past
-
+module _ {sw : Switches} {s tab links tests : List ℕ} {first z m : ℕ} (F : Grown sw s tab links tests first z m) where
   pub grown_index : HasIndex sw s tab links tests
-  grown_index = record { before = x; keys = G.seen; index = G.index }
+  grown_index = record { before = z; keys = F.seen; index = F.index }
 
-  pub grown_end : m ≤ x → DuplicateAt sw s tab first m None
-  grown_end h = past_end sw s tab first m x G.seen G.past h
+  pub grown_end : m ≤ z → DuplicateAt sw s tab first m None
+  grown_end h = past_end sw s tab first m z F.seen F.past h
 
-  module _ (here : x < m) where
-    pub grown_next : {y : ℕ} → y ≡ word_of tab x 8 → (x < y) × (y ≤ m)
+  -- the child at x
+  module _ {x : ℕ} (at : z ≡ x) (here : x < m) where
+    G : Grown sw s tab links tests first x m
+    G = subst (λ (y : ℕ). Grown sw s tab links tests first y m) at F
+
+    pub grown_keys : HaveKeys sw s tab first x
+    grown_keys = past_have_keys sw s tab first m x G.seen G.past
+
+    grown_next : {y : ℕ} → y ≡ word_of tab x 8 → (x < y) × (y ≤ m)
     grown_next e = let L = (past_row sw s tab first m x G.seen G.past here).1 in (omega (arith, L.later), omega (arith, L.below))
 
     module _ {a e : ℕ} (p : a ≡ word_of tab x 4) (q : e ≡ word_of tab x 5) where
@@ -77,53 +80,50 @@ module _ {sw : Switches} {s tab links tests : List ℕ} {first x m : ℕ} (G : G
       pub long_hit : {r : Bool} → FoundKey sw s tab first x a e r → r ≡ true → DuplicateAt sw s tab first m (Some a)
       long_hit F t = hit grown_key.content grown_key.key (sym (found F) ∙ t)
 
-      module _ {out : List ℕ} {n : ℕ} (W : KeyWritten sw s a e out n) where
-        pub long_on : {y : ℕ} {r : Bool} → m ≤ max_nodes → y ≡ word_of tab x 8 → key_bytes < n → FoundKey sw s tab first x a e r → r ≡ false → Grown sw s tab links tests first y m
-        long_on {y} few r l F t =
-            let N = grown_next r in
+      pub long_on : {out : List ℕ} {y : ℕ} {r : Bool} → KeyWritten sw s a e out None → m ≤ max_nodes → y ≡ word_of tab x 8 → FoundKey sw s tab first x a e r → r ≡ false
+          → Grown sw s tab links tests first y m
+      long_on {out} {y} W few r F t =
+          let N = grown_next r in
+          record {
+            seen = G.seen ++ (grown_key.content ∷ []);
+            past = on r grown_key.content grown_key.key (sym (found F) ∙ t);
+            index = index_later (index_long G.index grown_key.content (W.is grown_key.content grown_key.key).is) y (omega (arith, N.0)) (omega (arith, N.1, few));
+          }
+
+      -- a short one
+      module _ {out : List ℕ} {n : ℕ} (W : KeyWritten sw s a e out (Some n)) where
+        written : ContentIn grown_key.content out (Some n)
+        written = W.is grown_key.content grown_key.key
+
+        pub short_within : n ≤ key_bytes
+        short_within = written.is.1
+
+        pub short_key : IsPrefixed (take n out)
+        short_key = record { content = grown_key.content; short = written.is.0; is = written.is.2 }
+
+        asked : {r : Rust.Option Place} → LookedUp sw s tab links tests (take n out) r → PlaceIs sw s tab links tests G.seen grown_key.content r
+        asked U = U.is x G.seen G.index grown_key.content written.is.0 written.is.2
+
+        pub short_hit : LookedUp sw s tab links tests (take n out) None → DuplicateAt sw s tab first m (Some a)
+        short_hit U = hit grown_key.content grown_key.key (asked U)
+
+        pub short_cell : {p : Place} → LookedUp sw s tab links tests (take n out) (Some p) → p.cell < cells
+        short_cell {p} U =
+            let F = (asked U).1 in
+            let b = comes_before G.index _ F.at p.cell F.route in
+            let f = G.index.few in
+            omega arith
+
+        pub short_on : {y : ℕ} {place : Place} → m ≤ max_nodes → y ≡ word_of tab x 8 → LookedUp sw s tab links tests (take n out) (Some place)
+            → Grown sw s tab (set links place.cell x) (set tests x place.test) first y m
+        short_on {y} {place} few v U =
+            let N = grown_next v in
+            let A = asked U in
             record {
               seen = G.seen ++ (grown_key.content ∷ []);
-              past = on r grown_key.content grown_key.key (sym (found F) ∙ t);
+              past = on v grown_key.content grown_key.key A.0;
               index =
                   index_later
-                  (index_long G.index grown_key.content (is_long grown_key.content out n (W.is grown_key.content grown_key.key) l)) y (omega (arith, N.0)) (omega (arith, N.1, few));
+                  (index_more G.index (omega (arith, few)) grown_key.content written.is.0 (record { some = G.index.some; key = key_by sw s grown_key.content a e (word_of tab x 4) (word_of tab x 5) p q grown_key.key }) A.1) y (omega (arith, N.0))
+                  (omega (arith, N.1, few));
             }
-
-        -- a short one
-        module _ (l : n ≤ key_bytes) where
-          short_is : is_short grown_key.content ≡ true
-          short_is = is_short_law grown_key.content out n (W.is grown_key.content grown_key.key) l
-
-          bytes_are : take n out ≡ prefixed grown_key.content
-          bytes_are = ((W.is grown_key.content grown_key.key).short short_is).1
-
-          pub short_key : IsPrefixed (take n out)
-          short_key = record { content = grown_key.content; short = short_is; is = bytes_are }
-
-          asked : {r r' : Lookup} → LookedUp sw s tab links tests (take n out) r → r ≡ r' → LookupIs sw s tab links tests G.seen grown_key.content r'
-          asked {r} {r'} U e =
-              subst (LookupIs sw s tab links tests G.seen grown_key.content) e (U.is x G.seen G.index grown_key.content short_is bytes_are)
-
-          pub short_hit : {r : Lookup} → LookedUp sw s tab links tests (take n out) r → r ≡ L.Known → DuplicateAt sw s tab first m (Some a)
-          short_hit U t = hit grown_key.content grown_key.key (asked U t)
-
-          pub short_cell : {r : Lookup} {cell test : ℕ} → LookedUp sw s tab links tests (take n out) r → r ≡ L.New cell test → cell < cells
-          short_cell {r} {cell} {test} U t =
-              let F = (asked U t).1 in
-              let b = comes_before G.index _ F.at cell F.route in
-              let f = G.index.few in
-              omega arith
-
-          pub short_on : {y : ℕ} {r : Lookup} {cell test : ℕ} → m ≤ max_nodes → y ≡ word_of tab x 8 → LookedUp sw s tab links tests (take n out) r → r ≡ L.New cell test
-              → Grown sw s tab (set links cell x) (set tests x test) first y m
-          short_on {y} {r} {cell} {test} few v U t =
-              let N = grown_next v in
-              let A = asked U t in
-              record {
-                seen = G.seen ++ (grown_key.content ∷ []);
-                past = on v grown_key.content grown_key.key A.0;
-                index =
-                    index_later
-                    (index_more G.index (omega (arith, few)) grown_key.content short_is (record { some = G.index.some; key = key_by sw s grown_key.content a e (word_of tab x 4) (word_of tab x 5) p q grown_key.key }) A.1) y (omega (arith, N.0))
-                    (omega (arith, N.1, few));
-              }

@@ -18,22 +18,8 @@ use Rattle.lexer.specs.Token.{token_content}
 use Rattle.lexer.specs.Internal.{Keyed}
 use Rattle.reader.specs.Tree.{node_words}
 use Rattle.reader.specs.Syntax.{holds}
-use Rattle.reader.specs.Internal.Values.{bytes_at, KeyAt, Link, SiblingKeys, HaveKeys, FoundKey}
-
-some_is : {a b : List ℕ} → some a ≡ some b → a ≡ b
-some_is e = cc
-
--- a span has one content
-pub key_unique : (sw : Switches) (s : List ℕ) (a e : ℕ) (v w : List ℕ) → KeyAt sw s a e v → KeyAt sw s a e w → v ≡ w
-key_unique sw s a e v w p q = some_is (sym p.holds ∙ q.holds)
-
-pub chain_unique : (sw : Switches) (s tab : List ℕ) (x m : ℕ) (ks js : List (List ℕ)) → SiblingKeys sw s tab x m ks → SiblingKeys sw s tab x m js → ks ≡ js
-chain_unique sw s tab x m [] [] C D = refl
-chain_unique sw s tab x m [] (v ∷ js) C D = let L = D.0 in let z : ⊥ = omega arith in absurd z
-chain_unique sw s tab x m (w ∷ ks) [] C D = let L = C.0 in let z : ⊥ = omega arith in absurd z
-chain_unique sw s tab x m (w ∷ ks) (v ∷ js) C D =
-    ap (λ (y : List ℕ). y ∷ ks) (key_unique sw s (get_or tab (node_words * x + 4) 0) (get_or tab (node_words * x + 5) 0) w v C.0.key D.0.key)
-    ∙ ap (λ (l : List (List ℕ)). v ∷ l) (chain_unique sw s tab (get_or tab (node_words * x + 8) 0) m ks js C.1 D.1)
+pub use Rattle.reader.specs.Internal.Keys.{key_unique, chain_unique}
+use Rattle.reader.specs.Internal.Values.{bytes_at, KeyAt, KeyHere, Link, SiblingKeys, HaveKeys, FoundKey}
 
 -- the walk for the key w has come to x
 pub record Walk (sw : Switches) (s tab : List ℕ) (from x m : ℕ) (w : List ℕ) : Type 0 where
@@ -113,6 +99,44 @@ key_part sw s a e w k p q = part_is sw (bytes_at s a e) p (record { content = w;
 
 pub keyed : (sw : Switches) (s : List ℕ) (a e : ℕ) (w : List ℕ) → KeyAt sw s a e w → Keyed sw (bytes_at s a e)
 keyed sw s a e w k = record { content = w; is = k.holds }
+
+-- ---- the search for a key, as the loop knows it
+
+-- the search for the key from a to e, whose own content stands in `own`, has come to x
+pub record Seeks (sw : Switches) (s tab : List ℕ) (from m a e : ℕ) (body : Body) (own : List ℕ) (x : ℕ) : Type 0 where
+  pub here : KeyHere sw s a e
+  pub own_is : content sw body own ≡ some here.content
+  pub walk : Walk sw s tab from x m here.content
+
+module _ {sw : Switches} {s tab : List ℕ} {from m a e : ℕ} {body : Body} {own : List ℕ} where
+  pub seek_start : (K : KeyHere sw s a e) → content sw body own ≡ some K.content → HaveKeys sw s tab from m → Seeks sw s tab from m a e body own from
+  seek_start K o H = record { here = K; own_is = o; walk = walk_start sw s tab from m K.content H }
+
+  pub seek_end : {x : ℕ} → Seeks sw s tab from m a e body own x → m ≤ x → FoundKey sw s tab from m a e false
+  seek_end {x} F h = walk_end sw s tab from m F.here.content a e F.here.key x F.walk h
+
+  -- the child at x, by words that were read
+  module _ {z x b f : ℕ} (F : Seeks sw s tab from m a e body own z) (at : z ≡ x) (h : x < m) (p : b ≡ get_or tab (node_words * x + 4) 0) (q : f ≡ get_or tab (node_words * x + 5) 0) where
+    there : Walk sw s tab from x m F.here.content
+    there = subst (λ (y : ℕ). Walk sw s tab from y m F.here.content) at F.walk
+
+    pub seek_key : (v : List ℕ) × KeyAt sw s b f v
+    seek_key = walk_key sw s tab from m F.here.content x b f there h p q
+
+    module _ {r : Bool} (t : r ≡ same_content (token_content sw (bytes_at s b f)) (content sw body own)) where
+      told : r ≡ same_bytes seek_key.0 F.here.content
+      told = same_by sw s b f seek_key.0 body own F.here.content r seek_key.1 F.own_is t
+
+      pub seek_hit : r ≡ true → FoundKey sw s tab from m a e true
+      seek_hit y = walk_hit sw s tab from m F.here.content a e F.here.key x b f there h p q seek_key.0 seek_key.1 (sym told ∙ y)
+
+      pub seek_on : {y : ℕ} → y ≡ get_or tab (node_words * x + 8) 0 → r ≡ false → Seeks sw s tab from m a e body own y
+      seek_on {y} n g =
+          record {
+            here = F.here;
+            own_is = F.own_is;
+            walk = walk_on sw s tab from m F.here.content x b f y there h p q n seek_key.0 seek_key.1 (sym told ∙ g);
+          }
 
 -- ---- one child more
 

@@ -20,6 +20,7 @@ pub mod MoveLaws
 pub mod KnownLaws
 pub mod ReplaceLaws
 pub mod RootLaws
+pub mod SiblingLaws
 pub mod SignedLaws
 pub mod KeepLaws
 pub mod BeginLaws
@@ -33,6 +34,7 @@ pub mod IndexLaws
 pub mod LookupLaws
 pub mod IndexRun
 pub mod FewRun
+pub mod KindLaws
 pub mod RowLaws
 pub mod BodyRun
 pub mod ValueRun

@@ -1,29 +1,22 @@
 -- What a lookup in the index answers.
 -- Assumes nothing.
+use Rattle.std.specs.Prelude.{Some, None, IsSome, ◌≢◌}
 use mathlib.Core.Path.{◌≡◌, refl, sym, ap, ◌∙◌, subst}
 use Prim.Native.Nat.{ℕ, ◌+◌, ◌<◌, ◌≤◌}
 use native.Mathlib.Omega.{arith}
 use mathlib.Core.Bool.{Bool, true, false, true≢false}
 use mathlib.Core.List.{List, []}
-use lib.Dec.{eqb}
 use lib.ListN.{length, get_or, take}
-use borrow.Author.Tests.{eqb-true, eqb-false, leb-true}
+use borrow.Author.Tests.{leb-true}
 use Rattle.text.specs.declared.switches.Switches.{Switches}
-use Rattle.reader.specs.declared.index.Lookup.TheVariants as L
+use Rattle.std.specs.declared.option.Option as Rust
 use Rattle.reader.specs.Reading.{word_of}
 use Rattle.reader.specs.Syntax.{holds}
 use Rattle.reader.specs.Internal.Values.{KeyHere}
-use Rattle.reader.specs.Internal.Index.{key_bytes, is_short, prefixed, IsPrefixed, KeyWritten, agreed, passes, Tells, TellsBy, Route, KeyNode, Indexed, HasIndex, HasKey, NodeWritten, NewAt, LookedUp}
-use Rattle.reader.proofs.PrefixLaws.{prefixed_same, prefixed_first, prefixed_length, agreed_within, agreed_differ}
+use Rattle.reader.specs.Internal.Index.{key_bytes, is_short, prefixed, IsPrefixed, KeyWritten, ContentIn, agreed, passes, Tells, TellsBy, Route, KeyNode, Indexed, HasIndex, HasKey, NodeWritten, NewAt, LookedUp}
+use Rattle.reader.proofs.PrefixLaws.{prefixed_same, prefixed_first, prefixed_length, agreed_differ}
 use Rattle.reader.proofs.RouteLaws.{positive, route_same}
 use Rattle.reader.proofs.IndexLaws.{comes_entry}
-
-below_is : (a b : ℕ) → a ≤ b → (a ≡ b → ⊥) → a < b
-below_is a b h n = by (eqb a b) refl
-  where
-    by : (t : Bool) → eqb a b ≡ t → a < b
-    by true t = absurd (n (eqb-true a b t))
-    by false t = let k = eqb-false a b t in omega arith
 
 -- ---- what is found
 
@@ -53,10 +46,10 @@ module _ {sw : Switches} {s tab links tests : List ℕ} {x : ℕ} {ks : List (Li
   -- it comes to a node
   module _ (out : List ℕ) (n : ℕ) (N : NodeWritten sw s tab r out n) (h : 0 < r) where
     other_is : (v : List ℕ) → KeyNode sw s tab r v → is_short v ≡ true → take n out ≡ prefixed v
-    other_is v K q = ((N.is v K).short q).1
+    other_is v K q = (N.is v K).is.2
 
     pub other_short : n ≤ key_bytes
-    other_short = let E = comes_entry X (prefixed w) r e R h in ((N.is E.content E.node).short E.short).0
+    other_short = let E = comes_entry X (prefixed w) r e R h in (N.is E.content E.node).is.1
 
     pub known_is : agreed (prefixed w) (take n out) ≡ length (prefixed w) → holds ks w ≡ true
     known_is a =
@@ -80,57 +73,72 @@ module _ {sw : Switches} {s tab : List ℕ} {y a e : ℕ} where
   pub node_here : HasKey sw s tab y → a ≡ word_of tab y 4 → e ≡ word_of tab y 5 → KeyHere sw s a e
   node_here H p q = record { content = H.content; key = rw (p, q) H.node.key }
 
-  pub node_written : {out : List ℕ} {r : ℕ} → a ≡ word_of tab y 4 → e ≡ word_of tab y 5 → KeyWritten sw s a e out r → NodeWritten sw s tab y out r
-  node_written p q K = record { is = λ w N. K.is w (rw (p, q) N.key) }
+  module _ {out : List ℕ} {r : Rust.Option ℕ} (p : a ≡ word_of tab y 4) (q : e ≡ word_of tab y 5) (K : KeyWritten sw s a e out r) where
+    node_is : (w : List ℕ) → KeyNode sw s tab y w → ContentIn w out r
+    node_is w N = K.is w (rw (p, q) N.key)
+
+    -- it has room
+    pub node_some : HasKey sw s tab y → IsSome r
+    node_some H = by r (node_is H.content H.node)
+      where
+        by : (r : Rust.Option ℕ) → ContentIn H.content out r → IsSome r
+        by (Some n) C = refl
+        by None C = absurd (true≢false (sym H.short ∙ C.is))
+
+    pub node_written : {n : ℕ} → r ≡ Some n → NodeWritten sw s tab y out n
+    node_written {n} h = record { is = λ w N. subst (ContentIn w out) h (node_is w N) }
 
 -- ---- what `look_up` answers
 
--- the place of a byte in which two keys differ
-pub look_place : (bytes l : List ℕ) {i : ℕ} → IsPrefixed bytes → i ≡ agreed bytes l → (i ≡ length bytes → ⊥) → i < key_bytes
-look_place bytes l {i} K p d =
-    let k = agreed_within bytes l in
+-- a byte of a key
+pub look_place : {bytes : List ℕ} {i : ℕ} → IsPrefixed bytes → i < length bytes → i < key_bytes
+look_place {bytes} {i} K h =
     let n = ap (length {A = ℕ}) K.is ∙ prefixed_length K.content in
-    let h = below_is i (length bytes) (omega arith) d in
     let q = leb-true (length K.content + 2) key_bytes K.short in
     omega arith
+
+-- its first is not 0
+pub look_first : {bytes : List ℕ} {b : ℕ} → IsPrefixed bytes → b ≡ get_or bytes 0 0 → b ≢ 0
+look_first {bytes} K p z = prefixed_first K.content (ap (λ (l : List ℕ). get_or l 0 0) (sym K.is) ∙ sym p ∙ z)
+
+-- the first in which two keys differ
+pub look_differ : (bytes l : List ℕ) {i own other : ℕ} → i ≡ agreed bytes l → i < length bytes → own ≡ get_or bytes i 0 → other ≡ get_or l i 0 → own ≢ other
+look_differ bytes l {i} p h a b z =
+    agreed_differ bytes l (subst (λ (j : ℕ). j < length bytes) p h)
+    (ap (λ (j : ℕ). get_or bytes j 0) (sym p) ∙ sym a ∙ z ∙ b ∙ ap (λ (j : ℕ). get_or l j 0) p)
 
 route_by : {links tests bytes : List ℕ} {r e : ℕ} → Route links tests bytes 0 0 r e → (w : List ℕ) → bytes ≡ prefixed w → Route links tests (prefixed w) 0 0 r e
 route_by {links} {tests} {bytes} {r} {e} R w q = subst (λ (l : List ℕ). Route links tests l 0 0 r e) q R
 
 module _ {sw : Switches} {s tab links tests : List ℕ} {bytes : List ℕ} {r e : ℕ} (R : Route links tests bytes 0 0 r e) where
-  pub look_none : {own test : ℕ} → r ≡ 0 → own ≡ get_or bytes 0 0 → TellsBy 0 own 0 test → LookedUp sw s tab links tests bytes (L.New e test)
+  pub look_none : {own test : ℕ} → r ≡ 0 → own ≡ get_or bytes 0 0 → TellsBy 0 own 0 test → LookedUp sw s tab links tests bytes (Some (record { cell = e; test = test }))
   look_none {own} {test} z p T =
       record {
         is =
             λ x ks X w short q.
-            let f : get_or (prefixed w) 0 0 ≡ own = ap (λ (l : List ℕ). get_or l 0 0) (sym q) ∙ sym p in
-            none_is X w r e (route_by R w q) test short z (T.is (λ k. prefixed_first w (f ∙ k)) (prefixed w) [] f refl).own;
+            none_is X w r e (route_by R w q) test short z (T.is (prefixed w) [] (ap (λ (l : List ℕ). get_or l 0 0) (sym q) ∙ sym p) refl).own;
       }
 
   -- the key that it comes to
   pub look_key : HasIndex sw s tab links tests → (r ≡ 0 → ⊥) → HasKey sw s tab r
-  look_key H n = let E = comes_entry H.index bytes r e R (positive r n) in record { content = E.content; node = E.node }
+  look_key H n = let E = comes_entry H.index bytes r e R (positive r n) in record { content = E.content; node = E.node; short = E.short }
 
   module _ {out : List ℕ} {n : ℕ} (N : NodeWritten sw s tab r out n) (some : r ≡ 0 → ⊥) where
     pub look_short : HasIndex sw s tab links tests → IsPrefixed bytes → n ≤ key_bytes
     look_short H K = other_short H.index K.content r e (route_by R K.content K.is) out n N (positive r some)
 
-    pub look_known : {i : ℕ} → i ≡ agreed bytes (take n out) → i ≡ length bytes → LookedUp sw s tab links tests bytes L.Known
-    look_known p d =
+    pub look_known : agreed bytes (take n out) ≡ length bytes → LookedUp sw s tab links tests bytes None
+    look_known d =
         record {
           is =
               λ x ks X w short q.
-              known_is X w r e (route_by R w q) out n N (positive r some) (ap (λ (l : List ℕ). agreed l (take n out)) (sym q) ∙ sym p ∙ d ∙ ap (length {A = ℕ}) q);
+              known_is X w r e (route_by R w q) out n N (positive r some) (ap (λ (l : List ℕ). agreed l (take n out)) (sym q) ∙ d ∙ ap (length {A = ℕ}) q);
         }
 
-    pub look_fresh : {i own other test : ℕ} → i ≡ agreed bytes (take n out) → (i ≡ length bytes → ⊥) → own ≡ get_or bytes i 0 → other ≡ get_or (take n out) i 0 → TellsBy i own other test
-        → LookedUp sw s tab links tests bytes (L.New e test)
-    look_fresh {i} {own} {other} {test} p d a b T =
-        let k = agreed_within bytes (take n out) in
-        let h : agreed bytes (take n out) < length bytes = below_is (agreed bytes (take n out)) (length bytes) k (λ q. d (p ∙ q)) in
-        let f = agreed_differ bytes (take n out) h in
-        let t =
-        T.is (λ q. f (ap (λ (j : ℕ). get_or bytes j 0) (sym p) ∙ sym a ∙ q ∙ b ∙ ap (λ (j : ℕ). get_or (take n out) j 0) p)) bytes (take n out) (sym a) (sym b) in
+    pub look_fresh : {i own other test : ℕ} → own ≡ get_or bytes i 0 → other ≡ get_or (take n out) i 0 → TellsBy i own other test
+        → LookedUp sw s tab links tests bytes (Some (record { cell = e; test = test }))
+    look_fresh {i} {own} {other} {test} a b T =
+        let t = T.is bytes (take n out) (sym a) (sym b) in
         record {
           is =
               λ x ks X w short q.

@@ -1,5 +1,6 @@
 -- Contents behind their lengths: how they are written, where two of them differ, and the tests that tell them apart.
 -- Assumes nothing.
+use Rattle.std.specs.Prelude.{Some, None}
 use mathlib.Core.Path.{◌≡◌, refl, sym, ap, ◌∙◌}
 use Prim.Native.Nat.{ℕ, suc, ◌+◌, ◌-◌, ◌*◌, ◌/◌, ◌%◌, ◌^◌, ◌<◌, ◌≤◌}
 use native.Mathlib.Omega.{arith}
@@ -9,9 +10,13 @@ use mathlib.Core.List.{List, [], ◌∷◌}
 use lib.Dec.{eqb}
 use lib.ListN.{length, get_or, set, take, drop, drop_of_length-le}
 use lib.Seq.{drop-cons, drop-drop, get_or-drop}
-use borrow.Author.Tests.{eqb-true, eqb-false, eq-eqb, ne_eqb, leb-true, leb-false}
+use borrow.Author.Tests.{eqb-true, eqb-false, eq-eqb, ne_eqb, le-leb, lt-leb}
+use Rattle.std.specs.Int.{w8, trailing_zeros}
+use Rattle.std.specs.Int.Bits.{bit_xor, xor_add_and}
+use Rattle.std.proofs.lemmas.Nat.{and_le_l, and_le_r, xor_of_8}
+use Rattle.std.proofs.lemmas.Nat.Bits.{bit_at-trailing_zeros, bit_at_xor}
 use Rattle.literals.specs.InternalContent.{CopiedAs}
-use Rattle.reader.specs.Internal.Index.{key_bytes, is_short, prefixed, ContentIn, agreed, bit_at, miss_of, DiffersIn, TellsBy}
+use Rattle.reader.specs.Internal.Index.{key_bytes, prefixed, ContentIn, agreed, bit_at, miss_of, TellsBy}
 
 -- ---- where two lists differ
 
@@ -118,54 +123,35 @@ miss_by s i j v b h k e =
     let g : (b + ((i * 8 + j) * 2 + v) % 2) % 2 ≡ (b + v) % 2 = omega arith in
     ap (λ (x : ℕ). (x + ((i * 8 + j) * 2 + v) % 2) % 2) f ∙ g
 
-pub tells_bit : (i own other j : ℕ) → DiffersIn own other j → TellsBy i own other ((i * 8 + j) * 2 + own / 2 ^ j % 2)
-tells_bit i own other j D =
+pub tells_bit : (i own other j : ℕ) → j < 8 → (own / 2 ^ j % 2 ≡ other / 2 ^ j % 2 → ⊥) → TellsBy i own other ((i * 8 + j) * 2 + own / 2 ^ j % 2)
+tells_bit i own other j low n =
     record {
       is =
-          λ d s t p q.
-          let v = own / 2 ^ j % 2 in
-          let u = other / 2 ^ j % 2 in
-          let n = D.is d in
-          let a = miss_by s i j (own / 2 ^ j % 2) (own / 2 ^ j % 2) D.low (below_two (own / 2 ^ j)) (ap (λ (b : ℕ). b / 2 ^ j % 2) p) in
-          let b = miss_by t i j (own / 2 ^ j % 2) (other / 2 ^ j % 2) D.low (below_two (own / 2 ^ j)) (ap (λ (b : ℕ). b / 2 ^ j % 2) q) in
+          λ s t p q.
+          let a = miss_by s i j (own / 2 ^ j % 2) (own / 2 ^ j % 2) low (below_two (own / 2 ^ j)) (ap (λ (b : ℕ). b / 2 ^ j % 2) p) in
+          let b = miss_by t i j (own / 2 ^ j % 2) (other / 2 ^ j % 2) low (below_two (own / 2 ^ j)) (ap (λ (b : ℕ). b / 2 ^ j % 2) q) in
           record {
             own = eq-eqb (miss_of ((i * 8 + j) * 2 + own / 2 ^ j % 2) s) 0 (a ∙ twice_even (own / 2 ^ j));
             apart = ne_eqb (miss_of ((i * 8 + j) * 2 + own / 2 ^ j % 2) t) 0 (λ e. n (same_parity (own / 2 ^ j) (other / 2 ^ j) (sym b ∙ e)));
           };
     }
 
-pub bit_none : (own other : ℕ) → (own % 2 ≡ other % 2 → ⊥) → own / 1 % 2 ≡ other / 1 % 2 → ⊥
-bit_none own other n e = n (omega arith)
+-- the lowest bit in which two bytes differ
+module _ (own other : ℕ) (h : own < 256) (k : other < 256) (n : own ≡ other → ⊥) where
+  some_bit : 0 < bit_xor own other
+  some_bit = let e = xor_add_and own other in let a = and_le_l own other in let b = and_le_r own other in omega (arith, e, a, b)
 
--- bytes that agree in all bits are one, from the highest bit down
-down_64 : (x y : ℕ) → x / 64 % 2 ≡ y / 64 % 2 → x / 128 ≡ y / 128 → x / 64 ≡ y / 64
-down_64 x y e f = omega arith
+  lowest : (trailing_zeros w8 (bit_xor own other) < 8) × (bit_xor own other / 2 ^ trailing_zeros w8 (bit_xor own other) % 2 ≡ 1)
+  lowest = let l = bit_at-trailing_zeros w8 (bit_xor own other) some_bit (xor_of_8 own other h k) in (l.0, l.1)
 
-down_32 : (x y : ℕ) → x / 32 % 2 ≡ y / 32 % 2 → x / 64 ≡ y / 64 → x / 32 ≡ y / 32
-down_32 x y e f = omega arith
+  pub differing_low : trailing_zeros w8 (bit_xor own other) < 8
+  differing_low = lowest.0
 
-down_16 : (x y : ℕ) → x / 16 % 2 ≡ y / 16 % 2 → x / 32 ≡ y / 32 → x / 16 ≡ y / 16
-down_16 x y e f = omega arith
-
-down_8 : (x y : ℕ) → x / 8 % 2 ≡ y / 8 % 2 → x / 16 ≡ y / 16 → x / 8 ≡ y / 8
-down_8 x y e f = omega arith
-
-down_4 : (x y : ℕ) → x / 4 % 2 ≡ y / 4 % 2 → x / 8 ≡ y / 8 → x / 4 ≡ y / 4
-down_4 x y e f = omega arith
-
-down_2 : (x y : ℕ) → x / 2 % 2 ≡ y / 2 % 2 → x / 4 ≡ y / 4 → x / 2 ≡ y / 2
-down_2 x y e f = omega arith
-
-down_1 : (x y : ℕ) → x % 2 ≡ y % 2 → x / 2 ≡ y / 2 → x ≡ y
-down_1 x y e f = omega arith
-
-pub bit_seven : (own other : ℕ) → own < 256 → other < 256 → own % 2 ≡ other % 2 → own / 2 % 2 ≡ other / 2 % 2 → own / 4 % 2 ≡ other / 4 % 2 → own / 8 % 2 ≡ other / 8 % 2
-    → own / 16 % 2 ≡ other / 16 % 2 → own / 32 % 2 ≡ other / 32 % 2 → own / 64 % 2 ≡ other / 64 % 2 → (own ≡ other → ⊥) → own / 128 % 2 ≡ other / 128 % 2 → ⊥
-bit_seven own other h k a b c d e f g n z =
-    n (down_1 own other a (down_2 own other b (down_4 own other c (down_8 own other d (down_16 own other e (down_32 own other f (down_64 own other g (top own other h k z))))))))
-  where
-    top : (x y : ℕ) → x < 256 → y < 256 → x / 128 % 2 ≡ y / 128 % 2 → x / 128 ≡ y / 128
-    top x y p q r = omega arith
+  pub differing_bit : own / 2 ^ trailing_zeros w8 (bit_xor own other) % 2 ≡ other / 2 ^ trailing_zeros w8 (bit_xor own other) % 2 → ⊥
+  differing_bit e =
+      let x = bit_at_xor own other (trailing_zeros w8 (bit_xor own other)) in
+      let l = lowest.1 in
+      omega (arith, x, l, e)
 
 -- ---- what writing a key leaves
 
@@ -180,37 +166,14 @@ behind (x ∷ y ∷ l) w r h e d =
     let k : take (length w) l ≡ w = sym (ap (λ (n : ℕ). drop 2 (take n (x ∷ y ∷ l))) u) ∙ d in
     (λ i. take (u i) ((v i / 256 + 1) ∷ v i % 256 ∷ l)) ∙ ap (λ (t : List ℕ). (length w / 256 + 1) ∷ length w % 256 ∷ t) k
 
-module _ {w out : List ℕ} {r : ℕ} (C : CopiedAs w 2 out r) (l : length out ≡ key_bytes) where
-  pub key_short : r ≤ length out → ContentIn w (set (set out 0 ((r - 2) / 256 + 1)) 1 ((r - 2) % 256)) r
-  key_short h =
-      let k = C.fits h in
-      record {
-        short = λ _. (omega arith, behind out w r (omega arith) k.0 k.1);
-        long = λ q. let u = leb-false (length w + 2) key_bytes q in let v = k.0 in omega arith;
-      }
+module _ {w out : List ℕ} (l : length out ≡ key_bytes) where
+  pub key_short : {r : ℕ} → CopiedAs w 2 out (Some r) → ContentIn w (set (set out 0 ((r - 2) / 256 + 1)) 1 ((r - 2) % 256)) (Some r)
+  key_short {r} C =
+      let k = C.is in
+      record { is = (le-leb (length w + 2) key_bytes (omega arith), omega arith, behind out w r (omega arith) k.0 k.2) }
 
-  pub key_long : length out < r → ContentIn w out r
-  key_long h =
-      let k = C.long h in
-      record {
-        short = λ q. let u = leb-true (length w + 2) key_bytes q in let z : ⊥ = omega arith in absurd z;
-        long = λ _. omega arith;
-      }
-
--- whether it is short, by how many bytes were answered
-pub is_short_law : (w out : List ℕ) (r : ℕ) → ContentIn w out r → r ≤ key_bytes → is_short w ≡ true
-is_short_law w out r C h = by (is_short w) refl
-  where
-    by : (b : Bool) → is_short w ≡ b → b ≡ true
-    by true e = refl
-    by false e = let k = C.long e in let z : ⊥ = omega arith in absurd z
-
-pub is_long : (w out : List ℕ) (r : ℕ) → ContentIn w out r → key_bytes < r → is_short w ≡ false
-is_long w out r C h = by (is_short w) refl
-  where
-    by : (b : Bool) → is_short w ≡ b → b ≡ false
-    by true e = let k = (C.short e).0 in let z : ⊥ = omega arith in absurd z
-    by false e = refl
+  pub key_long : CopiedAs w 2 out None → ContentIn w out None
+  key_long C = let k = C.is in record { is = lt-leb (length w + 2) key_bytes (omega arith) }
 
 pub agreed_within : (a b : List ℕ) → agreed a b ≤ length a
 unfolding agreed

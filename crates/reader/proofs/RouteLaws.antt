@@ -3,14 +3,14 @@
 use mathlib.Core.Path.{◌≡◌, refl, sym, ap, ◌∙◌, subst}
 use Prim.Native.Nat.{ℕ, zero, suc, ◌+◌, ◌*◌, ◌<◌, ◌≤◌}
 use native.Mathlib.Omega.{arith}
-use mathlib.Core.Bool.{Bool, true, false, cond, true≢false}
+use mathlib.Core.Bool.{Bool, true, false, true≢false}
 use mathlib.Core.List.{List}
 use lib.Dec.{eqb}
 use lib.ListN.{length, get_or, set}
 use lib.Seq.{get_or-set_same, get_or-set_other}
-use borrow.Author.Tests.{eqb-true, eqb-false}
+use borrow.Author.Tests.{eqb-true, eqb-false, eq-eqb, ne_eqb}
 use Rattle.reader.specs.Reading.{max_nodes}
-use Rattle.reader.specs.Internal.Index.{miss_of, passes, last_passed, Route, stops, passed, failed, cells}
+use Rattle.reader.specs.Internal.Index.{miss_of, passes, Route, stops, passed, failed, cells}
 
 pub positive : (r : ℕ) → (r ≡ 0 → ⊥) → 0 < r
 positive zero n = absurd (n refl)
@@ -140,28 +140,32 @@ module _ {links tests s : List ℕ} where
   pub led_stop : {m c y : ℕ} → Led links tests s m c → y ≡ get_or links c 0 → y ≡ 0 → Route links tests s 0 0 m c
   led_stop {m} {c} L q z = L.on m c (stops m c m c (sym q ∙ z) refl refl)
 
-  -- one test more
-  pub led_on : {m c y t r : ℕ} → Led links tests s m c → y ≡ get_or links c 0 → (y ≡ 0 → ⊥) → t ≡ get_or tests y 0 → r ≡ miss_of t s → Led links tests s (last_passed r m y) (2 * y + r)
-  unfolding last_passed
-  led_on {m} {c} {y} {t} {r} L q n p e = record { on = λ z d R. L.on z d (by z d (eqb r 0) refl R) }
-    where
-      here : (b : Bool) → eqb r 0 ≡ b → passes (get_or tests (get_or links c 0) 0) s ≡ b
-      here b f = ap (λ (k : ℕ). passes (get_or tests k 0) s) (sym q) ∙ ap (λ (k : ℕ). passes k s) (sym p) ∙ ap (λ (k : ℕ). eqb k 0) (sym e) ∙ f
+  -- one test more, which is passed or not
+  module _ {m c y t r : ℕ} (L : Led links tests s m c) (q : y ≡ get_or links c 0) (n : y ≡ 0 → ⊥) (p : t ≡ get_or tests y 0) (e : r ≡ miss_of t s) where
+    some_is : 0 < get_or links c 0
+    some_is = subst (λ (k : ℕ). 0 < k) q (positive y n)
 
-      some_is : 0 < get_or links c 0
-      some_is = subst (λ (k : ℕ). 0 < k) q (positive y n)
+    test_is : (b : Bool) → eqb r 0 ≡ b → passes (get_or tests (get_or links c 0) 0) s ≡ b
+    test_is b f = ap (λ (k : ℕ). passes (get_or tests k 0) s) (sym q) ∙ ap (λ (k : ℕ). passes k s) (sym p) ∙ ap (λ (k : ℕ). eqb k 0) (sym e) ∙ f
 
-      low : r < 2
-      low = subst (λ (k : ℕ). k < 2) (sym e) (miss_low t s)
+    pub led_passed : r ≡ 0 → Led links tests s y (2 * y + r)
+    led_passed u =
+        let w : 2 * y + r ≡ 2 * y = omega arith in
+        record {
+          on =
+              λ z d R.
+              L.on z d
+              (passed m c z d some_is (test_is true (eq-eqb r 0 u)) (subst (λ (k : ℕ). Route links tests s k (2 * k) z d) q (subst (λ (k : ℕ). Route links tests s y k z d) w R)));
+        }
 
-      by : (z d : ℕ) (b : Bool) → eqb r 0 ≡ b → Route links tests s (cond b y m) (2 * y + r) z d → Route links tests s m c z d
-      by z d true f R =
-          let u = eqb-true r 0 f in
-          let w : 2 * y + r ≡ 2 * y = omega arith in
-          passed m c z d some_is (here true f) (subst (λ (k : ℕ). Route links tests s k (2 * k) z d) q (subst (λ (k : ℕ). Route links tests s y k z d) w R))
-      by z d false f R =
-          let u = eqb-false r 0 f in
-          let l = low in
-          let v : 0 < r = positive r u in
-          let w : 2 * y + r ≡ 2 * y + 1 = omega arith in
-          failed m c z d some_is (here false f) (subst (λ (k : ℕ). Route links tests s m (2 * k + 1) z d) q (subst (λ (k : ℕ). Route links tests s m k z d) w R))
+    pub led_failed : (r ≡ 0 → ⊥) → Led links tests s m (2 * y + r)
+    led_failed u =
+        let l : r < 2 = subst (λ (k : ℕ). k < 2) (sym e) (miss_low t s) in
+        let v : 0 < r = positive r u in
+        let w : 2 * y + r ≡ 2 * y + 1 = omega arith in
+        record {
+          on =
+              λ z d R.
+              L.on z d
+              (failed m c z d some_is (test_is false (ne_eqb r 0 u)) (subst (λ (k : ℕ). Route links tests s m (2 * k + 1) z d) q (subst (λ (k : ℕ). Route links tests s m k z d) w R)));
+        }

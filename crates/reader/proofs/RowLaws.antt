@@ -14,8 +14,10 @@ use Rattle.reader.specs.declared.tree.Words.{Words}
 use Rattle.reader.specs.declared.tree.Label as CL
 use Rattle.reader.specs.Tree.{Span, Scalar, text, bytes, integer, decimal, false_value, true_value, null_value, Tree, leaf, branch, Forest, snoc, count, size, sizes, head_of, span_words, head_words, kind_number, scalar_number, scalar_words, rows, rows_all, node_words}
 use Rattle.reader.specs.Syntax.{head_by, stop_at, with_stop}
+use Rattle.reader.specs.Kinds.{number_of_kind, container_kind}
 use Rattle.reader.specs.Internal.Tokens.{leaf_of}
 use Rattle.reader.specs.Internal.Values.{span_at, label_of, SpansApart, row_words}
+use Rattle.reader.proofs.KindLaws.{container_says, scalar_says}
 use Rattle.reader.proofs.TableLaws.{length_rows, length_rows_all}
 use Rattle.reader.proofs.SizeLaws.{rows_all_snoc}
 use Rattle.text.proofs.ListLaws.{set_again, sets_append, set_before_sets, sets_swap, get_d_in_sets}
@@ -49,10 +51,11 @@ module _ (p : CL.Label) (ok : SpansApart p) where
       λ i. kind ∷ parent ∷ p.start ∷ stop ∷ (span_words_law p.key.start p.key.stop ok.keys i ++ (span_words_law p.name.start p.name.stop ok.names i ++ (next ∷ [])))
 
   pub leaf_row : (parent n stop : ℕ) (v : Scalar) (l : Words) → l ≡ leaf_of v
-      → row_words l.kind parent p stop (n + 1) l.low l.high l.extra ≡ rows parent n (leaf (head_by (label_of p) stop) v)
+      → row_words (number_of_kind l.kind) parent p stop (n + 1) l.low l.high l.extra ≡ rows parent n (leaf (head_by (label_of p) stop) v)
   unfolding rows leaf_of
   leaf_row parent n stop v l e =
-      ap (λ (x : Words). row_words x.kind parent p stop (n + 1) x.low x.high x.extra) e
+      ap (λ (x : Words). row_words (number_of_kind x.kind) parent p stop (n + 1) x.low x.high x.extra) e
+      ∙ ap (λ (k : ℕ). row_words k parent p stop (n + 1) (get_or (scalar_words v) 0 0) (get_or (scalar_words v) 1 0) (get_or (scalar_words v) 2 0)) (scalar_says v)
       ∙ ap (λ (k : ℕ). row_words (scalar_number v) parent p stop k (get_or (scalar_words v) 0 0) (get_or (scalar_words v) 1 0) (get_or (scalar_words v) 2 0)) (add-one n)
       ∙ sym (λ i. head_words_law (scalar_number v) parent stop (suc n) i ++ three v i)
 
@@ -80,11 +83,12 @@ rows_child tin tab out n m ts t g w v =
 
 -- the row of a container, written after those of its children
 pub rows_branch : (tin tab out : List ℕ) (p : CL.Label) → SpansApart p → (kind : Kind) (parent n m z stop : ℕ) (ts : Forest) → m ≡ n + 1 + sizes ts → z ≡ count ts
-    → tab ≡ sets tin (node_words * (n + 1)) (rows_all n (n + 1) ts) → out ≡ sets tab (node_words * n) (row_words (kind_number kind) parent p stop m z 0 0)
+    → tab ≡ sets tin (node_words * (n + 1)) (rows_all n (n + 1) ts) → out ≡ sets tab (node_words * n) (row_words (number_of_kind (container_kind kind)) parent p stop m z 0 0)
     → out ≡ sets tin (node_words * n) (rows parent n (branch (head_by (label_of p) stop) kind ts))
 rows_branch tin tab out p ok kind parent n m z stop ts g c w v =
     let k : node_words * (n + 1) ≡ node_words * n + node_words = omega arith in
     v
+    ∙ ap (λ (k : ℕ). sets tab (node_words * n) (row_words k parent p stop m z 0 0)) (container_says kind)
     ∙ ap (λ (l : List ℕ). sets l (node_words * n) (row_words (kind_number kind) parent p stop m z 0 0)) w
     ∙ sets_swap (row_words (kind_number kind) parent p stop m z 0 0) tin (node_words * n) (node_words * (n + 1)) (rows_all n (n + 1) ts) (omega arith)
     ∙ ap (λ (x : ℕ). sets (sets tin (node_words * n) (row_words (kind_number kind) parent p stop m z 0 0)) x (rows_all n (n + 1) ts)) k

@@ -1,53 +1,22 @@
 -- Signed numbers as words: an integer's two's complement, and a power of ten with 1000 added.
 -- Assumes nothing.
-use mathlib.Core.Path.{◌≡◌, refl, sym, ap, ◌∙◌}
-use mathlib.Core.Bool.{true, false}
-use Prim.Native.Nat.{suc, ◌-◌, ◌≤◌}
+use mathlib.Core.Path.{◌≡◌, refl, ap, ◌∙◌}
+use mathlib.Core.Bool.{true}
+use Prim.Native.Nat.{suc, ◌≤◌}
 use native.Mathlib.Omega.{arith}
-use lib.IntN.{ℤ, pos, negsuc, nat_abs, ◌-ℤ◌, ◌+ℤ◌}
-use lib.Signed.{mag, lt_z, le_z}
+use lib.IntN.{ℤ, pos, negsuc, ◌+ℤ◌}
+use lib.Signed.{le_z}
 use mir.Syntax.{w64}
 use mir.Val.{SFits, of_z, to_z}
 use mir.Facts.{to_z-of_z}
-use Rattle.literals.proofs.Signed.{above}
-use borrow.Author.Tests.{le-ltb, ltb-true, leb-true}
+use borrow.Author.Tests.{le-ltb, leb-true}
 use Rattle.reader.specs.Tree.{twos_complement, plus1000}
 
-negative : (z : ℤ) → lt_z z (pos 0) ≡ true → z ≡ negsuc (mag z)
-negative (pos n) e = let h = ltb-true n 0 e in absurd (omega arith)
-negative (negsuc n) e = refl
-
-positive : (z : ℤ) → lt_z z (pos 0) ≡ false → z ≡ pos (mag z)
-positive (pos n) e = refl
-positive (negsuc n) e = cc
-
-module _ (z : ℤ) (f : SFits w64 z) where
-  pub read : to_z w64 (of_z w64 z) ≡ z
-  read = to_z-of_z f
-
-  module _ (e : lt_z (to_z w64 (of_z w64 z)) (pos 0) ≡ true) where
-    is_neg : z ≡ negsuc (mag z)
-    is_neg = negative z (rw read at e)
-
-    pub over : negsuc 0 -ℤ to_z w64 (of_z w64 z) ≡ pos (mag z)
-    over = ap (λ (y : ℤ). negsuc 0 -ℤ y) (read ∙ is_neg) ∙ above (mag z)
-
-    pub over_read : to_z w64 (of_z w64 (negsuc 0 -ℤ to_z w64 (of_z w64 z))) ≡ pos (mag z)
-    over_read = ap (λ (y : ℤ). to_z w64 (of_z w64 y)) over ∙ to_z-of_z {w = w64} {z = pos (mag z)} (record { sfits = f.sfits })
-
-    pub neg_bits : 18446744073709551615 - mag z ≡ twos_complement z
-    unfolding twos_complement
-    neg_bits = sym (ap twos_complement is_neg ∙ k)
-      where
-        k : 18446744073709551616 - suc (mag z) ≡ 18446744073709551615 - mag z
-        k = omega arith
-
-  pub is_pos : lt_z (to_z w64 (of_z w64 z)) (pos 0) ≡ false → to_z w64 (of_z w64 z) ≡ pos (mag z)
-  is_pos e = read ∙ positive z (rw read at e)
-
-  pub pos_bits : lt_z (to_z w64 (of_z w64 z)) (pos 0) ≡ false → nat_abs (to_z w64 (of_z w64 z)) ≡ twos_complement z
-  unfolding twos_complement
-  pos_bits e = ap nat_abs (is_pos e) ∙ sym (ap twos_complement (sym read ∙ is_pos e))
+-- an integer's bits
+pub bits_is : (z : ℤ) → of_z w64 z ≡ twos_complement z
+unfolding twos_complement
+bits_is (pos n) = refl
+bits_is (negsuc n) = refl
 
 -- ---- a power from -400 to 400
 

@@ -29,6 +29,7 @@ use Rattle.std.specs.declared.result.Result.{Result}
 use Rattle.reader.specs.Tree.{Span, leaf, size, head_of, rows, node_words}
 use Rattle.reader.specs.Syntax.{Label, label, Frame, value, named, inner, close, config, Step, go, refuse_if, Begins, scalar, identifier, nothing, begins, span_of, is_mark, head_by, with_stop, ended, finished, no_node, counted, value_step, mode_step, step, Outcome, at_end, after_step}
 use Rattle.reader.specs.Internal.Tokens.{form_at, token_at, LeafIs, BeginIs, Begun, begins_at}
+use Rattle.reader.specs.Kinds.{number_of_kind}
 use Rattle.reader.specs.Internal.Ahead.{ahead_after}
 use Rattle.reader.specs.Internal.Values.{span_at, label_of, SpansApart, named_label, named_due, row_words, row_of, run_from, nodes_at, opened, Ready, Placed, is_full, leaf_progress, leaf_table, ValueRead, ValueRefused, ProgressIs, opened_by, ReadAs}
 use Rattle.reader.proofs.StopLaws.{stops_size, stops_key, stops_start, stops_stop}
@@ -72,7 +73,7 @@ module _ (sw : Switches) (limits : Limits) (s : List ℕ) (start stop : ℕ) (fr
       }
 
   leaf_value : SpansApart p → any ≡ true → (fresh && leb limits.nodes n) ≡ false → n < limits.nodes → start < stop → stop ≤ length s → (parent : ℕ) (tin out : List ℕ)
-      → out ≡ sets tin (node_words * n) (row_words v.kind parent p stop (n + 1) v.low v.high v.extra)
+      → out ≡ sets tin (node_words * n) (row_words (number_of_kind v.kind) parent p stop (n + 1) v.low v.high v.extra)
       → ValueRead sw limits s (opened sw limits s start stop fresh any (label_of p) n (begins (span_of (token_at sw s start stop)) (form_at sw s start))) (label_of p) start d parent n tin out stop (n + 1)
   unfolding value_step refuse_if after_step ω size head_of head_by
   leaf_value ok e f r o i parent tin out w =

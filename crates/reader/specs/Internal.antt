@@ -3,6 +3,8 @@
 pub mod Tokens
 pub mod Ahead
 pub mod Values
+pub mod Keys
+pub mod Siblings
 pub mod Index
 pub mod Few
 pub mod Whole

@@ -1,37 +1,25 @@
 // What a token begins: a container, a value that holds no others, an identifier, or nothing.
 ghost use Rattle.std.specs.Prelude.{◌≡◌, true, ◌≤◌, pos, negsuc, length};
 ghost use Rattle.std.specs.Int.Signed.{le_z};
-ghost use Rattle.reader.specs.Tree.{integer, decimal, twos_complement, plus1000};
+ghost use Rattle.reader.specs.Tree.{integer, decimal, plus1000};
 ghost use Rattle.reader.specs.Reading.{max_text};
 ghost use Rattle.reader.specs.Syntax.{opens_with_capital};
-ghost use Rattle.reader.specs.Internal.Tokens.{TokenHere, BeginsHere, leaf_of, plain_words, mark_begin, word_begin, DecimalFits};
+ghost use Rattle.reader.specs.Internal.Tokens.{TokenHere, BeginsHere, leaf_of, plain_words, string_words, mark_begin, word_begin, DecimalFits};
 
-use super::kinds;
+use super::kinds::NodeKind;
 use super::rows::MINUS;
 use super::tree::{Begin, Kind, Words};
 use lexer::item::{Token, TokenKind};
 use text::bytes::same_bytes;
+use text::span::Span;
 
 // ---- numbers
 
-// How many numbers a word has room for; and 64 bits that are all 1, which is -1 in two's complement.
+// How many numbers a word has room for.
 const WORD: u64 = 4294967296;
 
-const ALL_ONES: u64 = 18446744073709551615;
-
-// The two's complement of an integer.
-fn bits_of(value: i64) -> u64
-    ensures { result ≡ twos_complement value }
-{
-    if value < 0 {
-        let below = (-1 - value) as u64;
-        return ALL_ONES - below;
-    }
-    value as u64
-}
-
 // The words of a value that its kind alone says.
-fn plain_leaf(kind: u32) -> Words
+fn plain_leaf(kind: NodeKind) -> Words
     ensures { result ≡ plain_words kind }
 {
     Words {
@@ -42,12 +30,25 @@ fn plain_leaf(kind: u32) -> Words
     }
 }
 
+// The words of a string: its token's span, and the length of its content.
+fn string_leaf(kind: NodeKind, span: Span, length: usize) -> Words
+    requires { (span.start ≤ max_text) × (span.stop ≤ max_text) × (length ≤ max_text) }
+    ensures { result ≡ string_words kind span length }
+{
+    Words {
+        kind,
+        low: span.start as u32,
+        high: span.stop as u32,
+        extra: length as u32,
+    }
+}
+
 fn integer_leaf(value: i64) -> Words
     ensures { result ≡ leaf_of (integer value) }
 {
-    let bits = bits_of(value);
+    let bits = value.cast_unsigned();
     Words {
-        kind: kinds::INTEGER,
+        kind: NodeKind::Integer,
         low: (bits % WORD) as u32,
         high: (bits / WORD) as u32,
         extra: 0,
@@ -66,50 +67,36 @@ fn decimal_leaf(minus: bool, m: u64, p: i64) -> Words
     requires { DecimalFits m p }
     ensures { result ≡ leaf_of (decimal minus m p) }
 {
-    let power = power_word(p);
-    let low = (m % WORD) as u32;
-    let high = (m / WORD) as u32;
-    if minus {
-        return Words {
-            kind: kinds::DECIMAL,
-            low,
-            high: high + MINUS,
-            extra: power,
-        };
-    }
+    let sign = if minus { MINUS } else { 0 };
     Words {
-        kind: kinds::DECIMAL,
-        low,
-        high,
-        extra: power,
+        kind: NodeKind::Decimal,
+        low: (m % WORD) as u32,
+        high: (m / WORD) as u32 + sign,
+        extra: power_word(p),
     }
 }
 
 // ---- words and marks
 
+#[tactic(auto, using(crate::proofs::BeginLaws::capital_in, crate::proofs::BeginLaws::capital_none, crate::proofs::BeginLaws::capital_low, crate::proofs::BeginLaws::capital_high))]
 fn opens_with_capital(word: &[u8]) -> bool
     ensures { result ≡ opens_with_capital word.now }
 {
-    if word.len() == 0 {
-        return false;
-    }
-    if word[0] < b'A' {
-        return false;
-    }
-    word[0] <= b'Z'
+    matches!(word, [b'A'..=b'Z', ..])
 }
 
+// kept: a `match` on the bytes of the words leaves a goal at each byte where a word may end or differ, 23 in all.
 fn word_begin(word: &[u8]) -> Option<Begin>
     ensures { result ≡ word_begin word.now }
 {
     if same_bytes(word, b"true") {
-        return Some(Begin::Scalar(plain_leaf(kinds::TRUE)));
+        return Some(Begin::Scalar(plain_leaf(NodeKind::True)));
     }
     if same_bytes(word, b"false") {
-        return Some(Begin::Scalar(plain_leaf(kinds::FALSE)));
+        return Some(Begin::Scalar(plain_leaf(NodeKind::False)));
     }
     if same_bytes(word, b"null") {
-        return Some(Begin::Scalar(plain_leaf(kinds::NULL)));
+        return Some(Begin::Scalar(plain_leaf(NodeKind::Null)));
     }
     if opens_with_capital(word) {
         return Some(Begin::Identifier);
@@ -117,19 +104,16 @@ fn word_begin(word: &[u8]) -> Option<Begin>
     None
 }
 
+#[tactic(auto, unfolding(crate::specs::Internal::Tokens::mark_begin))]
 fn mark_begin(b: u8) -> Option<Begin>
     ensures { result ≡ mark_begin b }
 {
-    if b == b'{' {
-        return Some(Begin::Container(Kind::Object));
+    match b {
+        b'{' => Some(Begin::Container(Kind::Object)),
+        b'[' => Some(Begin::Container(Kind::Array)),
+        b'(' => Some(Begin::Container(Kind::Tuple)),
+        _ => None,
     }
-    if b == b'[' {
-        return Some(Begin::Container(Kind::Array));
-    }
-    if b == b'(' {
-        return Some(Begin::Container(Kind::Tuple));
-    }
-    None
 }
 
 // ---- tokens
@@ -140,24 +124,12 @@ pub(crate) fn begin_of(text: &[u8], token: Token) -> Option<Begin>
     requires text_len_bound { length text.now ≤ max_text }
     ensures { BeginsHere text.now token result }
 {
-    let kind = token.kind;
-    let start = token.span.start;
-    let stop = token.span.stop;
-    match kind {
+    let span = token.span;
+    match token.kind {
         TokenKind::Mark(b) => mark_begin(b),
-        TokenKind::Word => word_begin(&text[start..stop]),
-        TokenKind::Text(n) => Some(Begin::Scalar(Words {
-            kind: kinds::TEXT,
-            low: start as u32,
-            high: stop as u32,
-            extra: n as u32,
-        })),
-        TokenKind::Bytes(n) => Some(Begin::Scalar(Words {
-            kind: kinds::BYTES,
-            low: start as u32,
-            high: stop as u32,
-            extra: n as u32,
-        })),
+        TokenKind::Word => word_begin(&text[span.start..span.stop]),
+        TokenKind::Text(n) => Some(Begin::Scalar(string_leaf(NodeKind::Text, span, n))),
+        TokenKind::Bytes(n) => Some(Begin::Scalar(string_leaf(NodeKind::Bytes, span, n))),
         TokenKind::Integer(value) => Some(Begin::Scalar(integer_leaf(value))),
         TokenKind::Decimal { minus, m, p } => Some(Begin::Scalar(decimal_leaf(minus, m, p))),
     }

@@ -1,14 +1,12 @@
 // Duplicate keys: the first key of an object that stands among those before it.
 ghost use Rattle.std.specs.Prelude.{◌≤◌, length};
-ghost use Rattle.reader.specs.Internal.Values.{HaveKeys, KeyHere, DuplicateAt};
-ghost use Rattle.reader.specs.Internal.Few.{Walked, KeyKept, HaveKept, IsKept};
+ghost use Rattle.reader.specs.Internal.Values.{KeyHere, DuplicateAt};
+ghost use Rattle.reader.specs.Internal.Few.{Walked, HaveKept, IsKept, Keeps};
 
-use super::keys::{copy_key, find_key};
-use super::rows::{KEY_START, KEY_STOP, NEXT, word_of};
-use super::tree::Children;
+use super::keys::ObjectKeys;
+use super::siblings::side_by_side;
 use text::bytes::same_bytes;
 use text::span::Span;
-use text::switches::Switches;
 
 // Room for the contents of keys, side by side.
 const KEPT_BYTES: usize = 1024;
@@ -16,105 +14,89 @@ const KEPT_BYTES: usize = 1024;
 // How many contents are kept at most.
 const KEPT_KEYS: usize = 16;
 
-// Writes the content of a key from `at` on and answers where it ends; one more than the output's length if it has no room.
-fn keep_key(sw: Switches, text: &[u8], key: Span, out: &mut [u8], at: usize) -> usize
-    requires key_here { KeyHere sw text.now key.start key.stop }
-    requires at_in_bounds { at ≤ length out.old }
-    ensures { KeyKept sw text.now key.start key.stop at out.old out.new result }
-{
-    let size = copy_key(sw, text, key, &mut out[at..], 0);
-    if out.len() - at < size {
-        return out.len() + 1;
-    }
-    at + size
+// The contents of `count` keys, side by side up to `at`, and where each ends.
+#[derive(Drop)]
+pub struct KeptKeys {
+    pub bytes: [u8; KEPT_BYTES],
+    pub ends: [usize; KEPT_KEYS],
+    pub count: usize,
+    pub at: usize,
 }
 
-// Whether the content from `at` to `end` is one of those before it, which end at `ends`.
-fn is_kept(bytes: &[u8], ends: &[usize], count: usize, at: usize, end: usize) -> bool
-    requires have_kept { HaveKept bytes.now ends.now count at }
-    requires at_le_end { (at ≤ end) × (end ≤ length bytes.now) }
-    ensures { IsKept bytes.now ends.now count at end result }
-{
-    let own = &bytes[at..end];
-    let mut from = 0;
-    let mut i = 0;
-    while i < count {
-        let to = ends[i];
-        if same_bytes(&bytes[from..to], own) {
-            return true;
+impl KeptKeys {
+    // Whether what stands behind these contents, up to `end`, is one of them.
+    fn holds(&self, end: usize) -> bool
+        requires have_kept { HaveKept self.now.bytes self.now.ends self.now.count self.now.at }
+        requires at_le_end { (self.now.at ≤ end) × (end ≤ length self.now.bytes) }
+        ensures { IsKept self.now.bytes self.now.ends self.now.count self.now.at end result }
+    {
+        let own = &self.bytes[self.at..end];
+        let mut from = 0;
+        for to in &self.ends[..self.count] {
+            if same_bytes(&self.bytes[from..*to], own) {
+                return true;
+            }
+            from = *to;
         }
-        from = to;
-        i += 1;
+        false
     }
-    false
+
+    // Whether the content of a key is another than these, and then it follows them; nothing if it has no room.
+    fn keep(&mut self, keys: &ObjectKeys<'_>, key: Span) -> Option<bool>
+        requires key_here { KeyHere keys.now.sw keys.now.text.now key.start key.stop }
+        requires have_kept { HaveKept self.old.bytes self.old.ends self.old.count self.old.at }
+        ensures { Keeps keys.now.sw keys.now.text.now key.start key.stop self.old self.new result }
+    {
+        if self.count == KEPT_KEYS {
+            return None;
+        }
+        let size = keys.copy(key, &mut self.bytes[self.at..], 0)?;
+        let end = self.at + size;
+        if self.holds(end) {
+            return Some(false);
+        }
+        self.ends[self.count] = end;
+        self.count += 1;
+        self.at = end;
+        Some(true)
+    }
 }
 
-// The first key from a child on that stands among those before it, where no earlier one does. Each is decoded again at every
-// comparison.
-fn duplicate_from(
-    sw: Switches,
-    text: &[u8],
-    table: &[u32],
-    children: Children,
-    from: usize,
-) -> Option<usize>
-    requires { Walked sw text.now table.now children.first from children.next }
-    ensures { DuplicateAt sw text.now table.now children.first children.next result }
-{
-    let mut child = from;
-    while child < children.next {
-        let start = word_of(table, child, KEY_START);
-        let stop = word_of(table, child, KEY_STOP);
-        let key = Span { start, stop };
-        let earlier = Children {
-            first: children.first,
-            next: child,
-            count: children.count,
+impl<'a> ObjectKeys<'a> {
+    // The first key from a child on that stands among those before it, where no earlier one does. Each is decoded again at every
+    // comparison.
+    fn duplicate_from(&self, from: usize) -> Option<usize>
+        requires { Walked self.now.sw self.now.text.now self.now.table.now self.now.first from self.now.next }
+        ensures { DuplicateAt self.now.sw self.now.text.now self.now.table.now self.now.first self.now.next result }
+    {
+        for child in side_by_side(self.table, from, self.next) {
+            let key = self.span(child);
+            if self.has_before(child, key) {
+                return Some(key.start);
+            }
+        }
+        None
+    }
+
+    // The first key that stands among those before it: quick where they are few. Each is decoded once and compared with those before
+    // it as bytes, so long as there is room for them.
+    pub(crate) fn duplicate_by_walk(&self) -> Option<usize>
+        ensures { DuplicateAt self.now.sw self.now.text.now self.now.table.now self.now.first self.now.next result }
+    {
+        let mut kept = KeptKeys {
+            bytes: [0; KEPT_BYTES],
+            ends: [0; KEPT_KEYS],
+            count: 0,
+            at: 0,
         };
-        if find_key(sw, text, table, earlier, key) {
-            return Some(start);
+        for child in side_by_side(self.table, self.first, self.next) {
+            let key = self.span(child);
+            match kept.keep(self, key) {
+                Some(true) => {}
+                Some(false) => return Some(key.start),
+                None => return self.duplicate_from(child),
+            }
         }
-        child = word_of(table, child, NEXT);
+        None
     }
-    None
-}
-
-// The first key of the children that stands among those before it: quick where they are few. Each is decoded once and compared
-// with those before it as bytes, so long as there is room for them.
-pub(crate) fn duplicate_by_walk(
-    sw: Switches,
-    text: &[u8],
-    table: &[u32],
-    children: Children,
-) -> Option<usize>
-    requires { HaveKeys sw text.now table.now children.first children.next }
-    ensures { DuplicateAt sw text.now table.now children.first children.next result }
-{
-    let mut bytes = [0u8; KEPT_BYTES];
-    let mut ends = [0usize; KEPT_KEYS];
-    let mut at = 0;
-    let mut count = 0;
-    let mut child = children.first;
-    while child < children.next {
-        if count == KEPT_KEYS {
-            return duplicate_from(sw, text, table, children, child);
-        }
-        let start = word_of(table, child, KEY_START);
-        let key = Span {
-            start,
-            stop: word_of(table, child, KEY_STOP),
-        };
-        let end = keep_key(sw, text, key, &mut bytes, at);
-        if KEPT_BYTES < end {
-            return duplicate_from(sw, text, table, children, child);
-        }
-        if is_kept(&bytes, &ends, count, at, end) {
-            return Some(start);
-        }
-        ends[count] = end;
-        at = end;
-        count += 1;
-        child = word_of(table, child, NEXT);
-    }
-    None
 }

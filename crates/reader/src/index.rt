@@ -2,16 +2,14 @@
 // that keys before it have set, to the only earlier key that it can be equal to; only these two are compared. A content that is new
 // differs from that key in some byte, and a bit of that byte becomes its own test. No key is compared twice, whatever the text,
 // and there is no hash that somebody could write keys for.
-ghost use Rattle.std.specs.Prelude.{◌≡◌, ◌≤◌, ◌<◌, length};
+ghost use Rattle.std.specs.Prelude.{◌≡◌, ◌≢◌, ◌≤◌, ◌<◌, length, MatchOption};
 ghost use Rattle.reader.specs.Reading.{max_nodes};
-ghost use Rattle.reader.specs.Internal.Values.{HaveKeys, KeyHere, DuplicateAt};
+ghost use Rattle.reader.specs.Internal.Values.{KeyHere, DuplicateAt};
 ghost use Rattle.reader.specs.Internal.Index.{
   key_bytes,
   agreed,
   bit_at,
   miss_of,
-  last_passed,
-  DiffersIn,
   TellsBy,
   Route,
   Rising,
@@ -24,12 +22,11 @@ ghost use Rattle.reader.specs.Internal.Index.{
   LookedUp,
 };
 
-use super::keys::{copy_key, find_key};
-use super::rows::{KEY_START, KEY_STOP, NEXT, word_of};
-use super::tree::{Children, MAX_NODES};
+use super::keys::ObjectKeys;
+use super::siblings::side_by_side;
+use super::tree::MAX_NODES;
 use text::bytes::byte_at;
 use text::span::Span;
-use text::switches::Switches;
 
 // Room for a key: two bytes for the length of its content, and the content. One that is longer is compared with all keys before it; a
 // text has few so long.
@@ -48,133 +45,53 @@ pub struct Leaf {
     pub cell: usize,
 }
 
-// A content that is in the index; or one that is not, with the cell that it belongs in and the test to set.
+// Where a content belongs that is not in the index: the cell, and the test to set.
 #[derive(Clone, Copy)]
-pub enum Lookup {
-    Known,
-    New(usize, u16),
+pub struct Place {
+    pub cell: usize,
+    pub test: u16,
 }
 
 // ---- contents
 
-// Writes the content of a key behind its length at the output's front, and answers how many bytes these are; more than the output has
-// if they have no room.
-fn write_key(sw: Switches, text: &[u8], key: Span, out: &mut [u8]) -> usize
-    requires key_here { KeyHere sw text.now key.start key.stop }
-    requires out_len { length out.old ≡ key_bytes }
-    ensures { KeyWritten sw text.now key.start key.stop out.new result }
+// The first byte of the first that is another in the second, which is 0 behind its end; nothing if all agree.
+fn difference(a: &[u8], b: &[u8]) -> Option<usize>
+    ensures { MatchOption result (agreed a.now b.now ≡ length a.now) (λ i. (i ≡ agreed a.now b.now) × (i < length a.now)) }
 {
-    let end = copy_key(sw, text, key, out, CONTENT);
-    if out.len() < end {
-        return end;
-    }
-    let size = end - CONTENT;
-    out[0] = (size / 256 + 1) as u8;
-    out[1] = (size % 256) as u8;
-    end
-}
-
-// The same for the key of a node.
-fn write_node_key(sw: Switches, text: &[u8], table: &[u32], node: usize, out: &mut [u8]) -> usize
-    requires has_key { HasKey sw text.now table.now node }
-    requires out_len { length out.old ≡ key_bytes }
-    ensures { NodeWritten sw text.now table.now node out.new result }
-{
-    let key = Span {
-        start: word_of(table, node, KEY_START),
-        stop: word_of(table, node, KEY_STOP),
-    };
-    write_key(sw, text, key, out)
-}
-
-// How many bytes at the front of the first agree with those of the second, which are 0 behind its end.
-fn agreement(a: &[u8], b: &[u8]) -> usize
-    ensures { result ≡ agreed a.now b.now }
-{
-    let mut i = 0;
-    while i < a.len() {
-        if a[i] != byte_at(b, i) {
-            return i;
+    for (i, x) in a.iter().enumerate() {
+        if *x != byte_at(b, i) {
+            return Some(i);
         }
-        i += 1;
     }
-    i
+    None
 }
 
 // ---- tests
 
 // Bit `place` of some bytes, those of each byte from the lowest on; 0 behind the end.
+#[tactic(auto, unfolding(crate::specs::Internal::Index::bit_at))]
 fn bit_at(s: &[u8], place: usize) -> usize
     ensures { result ≡ bit_at s.now place }
 {
-    let b = wide_byte(byte_at(s, place / 8));
-    (b >> (place % 8)) % 2
-}
-
-fn wide_byte(b: u8) -> usize
-    ensures { result ≡ b }
-{
-    b as usize
-}
-
-fn wide(x: u16) -> usize
-    ensures { result ≡ x }
-{
-    x as usize
+    usize::from(byte_at(s, place / 8) >> (place % 8)) % 2
 }
 
 // Whether these bytes pass a test: 0 if they do, or else 1.
+#[tactic(auto, using(crate::proofs::PrefixLaws::bit_low), unfolding(crate::specs::Internal::Index::miss_of))]
 fn miss_of(test: usize, s: &[u8]) -> usize
     ensures { result ≡ miss_of test s.now }
 {
     (bit_at(s, test / 2) + test % 2) % 2
 }
 
-// The node that was passed last, after one more.
-fn last_passed(miss: usize, node: usize, next: usize) -> usize
-    ensures { result ≡ last_passed miss node next }
-{
-    if miss == 0 {
-        return next;
-    }
-    node
-}
-
-// The lowest bit in which two bytes differ; 7 if they do in no other.
-fn differing_bit(own: u8, other: u8) -> usize
-    ensures { DiffersIn own other result }
-{
-    if own % 2 != other % 2 {
-        return 0;
-    }
-    if own / 2 % 2 != other / 2 % 2 {
-        return 1;
-    }
-    if own / 4 % 2 != other / 4 % 2 {
-        return 2;
-    }
-    if own / 8 % 2 != other / 8 % 2 {
-        return 3;
-    }
-    if own / 16 % 2 != other / 16 % 2 {
-        return 4;
-    }
-    if own / 32 % 2 != other / 32 % 2 {
-        return 5;
-    }
-    if own / 64 % 2 != other / 64 % 2 {
-        return 6;
-    }
-    7
-}
-
-// A test of byte i that `own` passes and `other`, which is another byte, does not.
+// A test of byte i that `own` passes and `other`, which is another byte, does not: of the lowest bit in which they differ.
 fn test_of(i: usize, own: u8, other: u8) -> u16
-    requires { i < key_bytes }
+    requires in_key { i < key_bytes }
+    requires another { own ≢ other }
     ensures { TellsBy i own other result }
 {
-    let bit = differing_bit(own, other);
-    let value = (wide_byte(own) >> bit) % 2;
+    let bit = (own ^ other).trailing_zeros() as usize;
+    let value = usize::from(own >> bit) % 2;
     ((i * 8 + bit) * 2 + value) as u16
 }
 
@@ -188,105 +105,96 @@ fn descend(links: &[u16], tests: &[u16], key: &[u8]) -> Leaf
     let mut node = 0;
     let mut cell = 0;
     loop {
-        let next = wide(links[cell]);
+        let next = usize::from(links[cell]);
         if next == 0 {
             return Leaf { node, cell };
         }
-        let miss = miss_of(wide(tests[next]), key);
-        node = last_passed(miss, node, next);
+        let miss = miss_of(usize::from(tests[next]), key);
+        if miss == 0 {
+            node = next;
+        }
         cell = 2 * next + miss;
     }
 }
 
-// Whether a key is in the index, by its content behind its length. `other` is written over.
-fn look_up(
-    sw: Switches,
-    text: &[u8],
-    table: &[u32],
-    links: &[u16],
-    tests: &[u16],
-    key: &[u8],
-    other: &mut [u8],
-) -> Lookup
-    requires has_index { HasIndex sw text.now table.now links.now tests.now }
-    requires prefixed { IsPrefixed key.now }
-    requires other_len { length other.old ≡ key_bytes }
-    ensures { LookedUp sw text.now table.now links.now tests.now key.now result }
-{
-    let leaf = descend(links, tests, key);
-    if leaf.node == 0 {
-        return Lookup::New(leaf.cell, test_of(0, byte_at(key, 0), 0));
+impl<'a> ObjectKeys<'a> {
+    // Writes the content of a key behind its length at the output's front, and answers how many bytes these are; nothing if they have no
+    // room.
+    fn write(&self, key: Span, out: &mut [u8]) -> Option<usize>
+        requires key_here { KeyHere self.now.sw self.now.text.now key.start key.stop }
+        requires out_len { length out.old ≡ key_bytes }
+        ensures { KeyWritten self.now.sw self.now.text.now key.start key.stop out.new result }
+    {
+        let end = self.copy(key, out, CONTENT)?;
+        let size = end - CONTENT;
+        out[0] = (size / 256 + 1) as u8;
+        out[1] = (size % 256) as u8;
+        Some(end)
     }
-    let n = write_node_key(sw, text, table, leaf.node, other);
-    let i = agreement(key, &other[..n]);
-    if i == key.len() {
-        return Lookup::Known;
-    }
-    let test = test_of(i, byte_at(key, i), byte_at(&other[..n], i));
-    Lookup::New(leaf.cell, test)
-}
 
-// The first key of the children that stands among those before it, by an index that is empty so far.
-fn index_keys(
-    sw: Switches,
-    text: &[u8],
-    table: &[u32],
-    links: &mut [u16],
-    tests: &mut [u16],
-    children: Children,
-) -> Option<usize>
-    requires have_keys { HaveKeys sw text.now table.now children.first children.next }
-    requires first_nonzero { (0 < children.first) × (children.next ≤ max_nodes) }
-    requires vacant { Vacant links.old tests.old }
-    ensures { DuplicateAt sw text.now table.now children.first children.next result }
-{
-    let mut own = [0u8; KEY_BYTES];
-    let mut other = [0u8; KEY_BYTES];
-    let first = children.first;
-    let mut next = first;
-    while next < children.next {
-        let child = next;
-        next = word_of(table, child, NEXT);
-        let place = word_of(table, child, KEY_START);
-        let key = Span {
-            start: place,
-            stop: word_of(table, child, KEY_STOP),
-        };
-        let n = write_key(sw, text, key, &mut own);
-        if KEY_BYTES < n {
-            let earlier = Children {
-                first,
-                next: child,
-                count: children.count,
-            };
-            if find_key(sw, text, table, earlier, key) {
-                return Some(place);
-            }
-        } else {
-            match look_up(sw, text, table, links, tests, &own[..n], &mut other) {
-                Lookup::Known => return Some(place),
-                Lookup::New(cell, test) => {
-                    links[cell] = child as u16;
-                    tests[child] = test;
+    // The same for the key of a node, which has room.
+    fn write_of(&self, node: usize, out: &mut [u8]) -> usize
+        requires has_key { HasKey self.now.sw self.now.text.now self.now.table.now node }
+        requires out_len { length out.old ≡ key_bytes }
+        ensures { NodeWritten self.now.sw self.now.text.now self.now.table.now node out.new result }
+    {
+        self.write(self.span(node), out).unwrap()
+    }
+
+    // Where a key belongs in the index, by its content behind its length; nothing if it is there already. `other` is written over.
+    fn look_up(&self, links: &[u16], tests: &[u16], key: &[u8], other: &mut [u8]) -> Option<Place>
+        requires has_index { HasIndex self.now.sw self.now.text.now self.now.table.now links.now tests.now }
+        requires prefixed { IsPrefixed key.now }
+        requires other_len { length other.old ≡ key_bytes }
+        ensures { LookedUp self.now.sw self.now.text.now self.now.table.now links.now tests.now key.now result }
+    {
+        let Leaf { node, cell } = descend(links, tests, key);
+        if node == 0 {
+            let test = test_of(0, byte_at(key, 0), 0);
+            return Some(Place { cell, test });
+        }
+        let n = self.write_of(node, other);
+        let other = &other[..n];
+        let i = difference(key, other)?;
+        let test = test_of(i, byte_at(key, i), byte_at(other, i));
+        Some(Place { cell, test })
+    }
+
+    // The first key that stands among those before it, by an index that is empty so far.
+    fn duplicate_in(&self, links: &mut [u16], tests: &mut [u16]) -> Option<usize>
+        requires first_nonzero { (0 < self.now.first) × (self.now.next ≤ max_nodes) }
+        requires vacant { Vacant links.old tests.old }
+        ensures { DuplicateAt self.now.sw self.now.text.now self.now.table.now self.now.first self.now.next result }
+    {
+        let mut own = [0u8; KEY_BYTES];
+        let mut other = [0u8; KEY_BYTES];
+        for child in side_by_side(self.table, self.first, self.next) {
+            let key = self.span(child);
+            match self.write(key, &mut own) {
+                Some(n) => match self.look_up(links, tests, &own[..n], &mut other) {
+                    Some(place) => {
+                        links[place.cell] = child as u16;
+                        tests[child] = place.test;
+                    }
+                    None => return Some(key.start),
+                },
+                None => {
+                    if self.has_before(child, key) {
+                        return Some(key.start);
+                    }
                 }
             }
         }
+        None
     }
-    None
-}
 
-// The first key of the children that stands among those before it. The index takes 28 KiB of the stack.
-pub(crate) fn duplicate_by_index(
-    sw: Switches,
-    text: &[u8],
-    table: &[u32],
-    children: Children,
-) -> Option<usize>
-    requires have_keys { HaveKeys sw text.now table.now children.first children.next }
-    requires first_nonzero { (0 < children.first) × (children.next ≤ max_nodes) }
-    ensures { DuplicateAt sw text.now table.now children.first children.next result }
-{
-    let mut links = [0u16; CELLS];
-    let mut tests = [0u16; MAX_NODES];
-    index_keys(sw, text, table, &mut links, &mut tests, children)
+    // The first key that stands among those before it. The index takes 28 KiB of the stack.
+    pub(crate) fn duplicate_by_index(&self) -> Option<usize>
+        requires { (0 < self.now.first) × (self.now.next ≤ max_nodes) }
+        ensures { DuplicateAt self.now.sw self.now.text.now self.now.table.now self.now.first self.now.next result }
+    {
+        let mut links = [0u16; CELLS];
+        let mut tests = [0u16; MAX_NODES];
+        self.duplicate_in(&mut links, &mut tests)
+    }
 }

@@ -9,9 +9,7 @@ ghost use Rattle.reader.specs.Internal.Values.{
   RefusedLateAfter,
 };
 
-use super::duplicates::duplicate_by_walk;
-use super::index::duplicate_by_index;
-use super::keys::key_refusal;
+use super::keys::{ObjectKeys, key_refusal};
 use super::tree::{Children, Kind};
 use text::refusal::{Reason, Refusal};
 use text::span::Span;
@@ -33,13 +31,19 @@ pub(crate) fn find_duplicate(
 {
     match kind {
         Kind::Object => {
+            let keys = ObjectKeys {
+                sw,
+                text,
+                table,
+                first: children.first,
+                next: children.next,
+            };
             if children.count <= FEW_KEYS {
-                return duplicate_by_walk(sw, text, table, children);
+                return keys.duplicate_by_walk();
             }
-            duplicate_by_index(sw, text, table, children)
+            keys.duplicate_by_index()
         }
-        Kind::Array => None,
-        Kind::Tuple => None,
+        Kind::Array | Kind::Tuple => None,
     }
 }
 
@@ -65,7 +69,8 @@ pub(crate) fn late_refusal(
 }
 
 // The same after this key, which stands after these children, or in its value: 8 at a duplicate key of theirs, or at this key if it is among
-// theirs, or else the refusal itself.
+// theirs, or else the refusal itself. Inlined, what it builds would stand on the stack once for each level of the cycle.
+#[inline(never)]
 pub(crate) fn late_after(
     sw: Switches,
     text: &[u8],
@@ -85,9 +90,17 @@ pub(crate) fn late_after(
                 reason: Reason::DuplicateKey,
                 place,
             },
-            None => key_refusal(sw, text, table, children, key, refusal),
+            None => {
+                let keys = ObjectKeys {
+                    sw,
+                    text,
+                    table,
+                    first: children.first,
+                    next: children.next,
+                };
+                key_refusal(&keys, key, refusal)
+            }
         },
-        Kind::Array => refusal,
-        Kind::Tuple => refusal,
+        Kind::Array | Kind::Tuple => refusal,
     }
 }

@@ -11,5 +11,6 @@ pub mod kinds;
 pub mod late;
 pub mod read;
 pub mod rows;
+pub mod siblings;
 pub mod tree;
 pub mod values;

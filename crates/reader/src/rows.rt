@@ -1,12 +1,11 @@
 // The rows of the table.
 ghost use Rattle.std.specs.Prelude.{◌≡◌, ◌≤◌, ◌<◌, ◌+◌, ◌*◌, length, set, replicate};
 ghost use Rattle.std.proofs.lemmas.List.Edits.{sets};
-ghost use Rattle.reader.specs.Tree.{kind_number, node_words};
+ghost use Rattle.reader.specs.Tree.{node_words};
 ghost use Rattle.reader.specs.Reading.{word_of};
 ghost use Rattle.reader.specs.Internal.Values.{row_of, RowRoom};
 
-use super::kinds;
-use super::tree::{Due, Kind, Words};
+use super::tree::{Due, Words};
 
 // How many words a node has.
 pub const NODE_WORDS: usize = 12;
@@ -44,13 +43,14 @@ pub const MINUS: u32 = 2147483648;
 pub const NO_PARENT: u32 = 4294967295;
 
 // Writes the words of a node whose value ends at `stop`; the next node that is not below it is `next`.
+// kept: a line for each word, which names it; in an array they would be told by their order alone.
 pub(crate) fn put_row(table: &mut [u32], due: Due, words: Words, stop: usize, next: usize)
     requires { RowRoom table.old due stop next }
     ensures { table.new ≡ sets table.old (node_words * due.spot.node) (row_of due words stop next) }
 {
     let label = due.label;
     let row = NODE_WORDS * due.spot.node;
-    table[row + KIND] = words.kind;
+    table[row + KIND] = u32::from(words.kind);
     table[row + PARENT] = due.spot.parent;
     table[row + START] = label.start;
     table[row + STOP] = stop as u32;
@@ -72,40 +72,19 @@ pub(crate) fn put_stop(table: &mut [u32], node: usize, stop: u32)
     table[NODE_WORDS * node + STOP] = stop;
 }
 
-// Word 0 of a container.
-pub(crate) fn kind_word(kind: Kind) -> u32
-    ensures { result ≡ kind_number kind }
-{
-    match kind {
-        Kind::Object => kinds::OBJECT,
-        Kind::Array => kinds::ARRAY,
-        Kind::Tuple => kinds::TUPLE,
-    }
-}
-
 // Makes every word 0.
 pub fn clear(table: &mut [u32])
     ensures { table.new ≡ replicate (length table.old) 0 }
 {
-    let mut i = 0;
-    while i < table.len() {
-        table[i] = 0;
-        i += 1;
-    }
+    table.fill(0);
 }
 
 // Word `w` of a node; 0 past the table's end.
 pub fn word32_of(table: &[u32], node: usize, w: usize) -> u32
     ensures { result ≡ word_of table.now node w }
 {
-    if table.len() / NODE_WORDS < node {
-        return 0;
-    }
-    let row = NODE_WORDS * node;
-    if table.len() - row <= w {
-        return 0;
-    }
-    table[row + w]
+    let at = NODE_WORDS.saturating_mul(node).saturating_add(w);
+    table.get(at).copied().unwrap_or(0)
 }
 
 // The same as a place or a node's number.

@@ -1,4 +1,5 @@
 // What the reader's functions hand each other.
+use super::kinds::NodeKind;
 use text::switches::Switches;
 
 // The containers.
@@ -73,7 +74,7 @@ pub struct Children {
 // The words of a node that say its value: 0 and 9 to 11.
 #[derive(Clone, Copy)]
 pub struct Words {
-    pub kind: u32,
+    pub kind: NodeKind,
     pub low: u32,
     pub high: u32,
     pub extra: u32,

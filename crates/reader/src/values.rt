@@ -26,8 +26,9 @@ ghost use Rattle.reader.specs.Internal.Values.{
 
 use super::begin::begin_of;
 use super::items::{Item, next_child, one_mark, token_after};
+use super::kinds::NodeKind;
 use super::late::{find_duplicate, late_after, late_refusal};
-use super::rows::{kind_word, put_row, put_stop};
+use super::rows::{put_row, put_stop};
 use super::tree::{Begin, Children, Due, Kind, Label, Limits, Rules, SpanWords, Spot, Words};
 use lexer::item::Token;
 use text::refusal::{Reason, Refusal};
@@ -198,7 +199,7 @@ fn put_branch(
         }),
         None => {
             let words = Words {
-                kind: kind_word(kind),
+                kind: NodeKind::from(kind),
                 low: children.count as u32,
                 high: 0,
                 extra: 0,

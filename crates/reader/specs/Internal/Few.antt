@@ -1,9 +1,10 @@
 -- Few keys of an object: their contents, side by side in an array, and the walk that keeps them there.
 -- Nothing here has to be believed: it serves the search for duplicate keys alone.
 -- Assumes nothing.
-use Rattle.std.specs.Prelude.{ℕ, ◌+◌, ◌<◌, ◌≤◌, ◌≡◌, Bool, List, [], ◌∷◌, length, get_or, take, drop}
+use Rattle.std.specs.Prelude.{ℕ, ◌+◌, ◌<◌, ◌≤◌, ◌≡◌, Bool, true, false, List, [], ◌∷◌, ◌++◌, Some, None, length, get_or, take, drop}
+use Rattle.std.specs.declared.option.Option as Rust
 use Rattle.text.specs.declared.switches.Switches.{Switches}
-use Rattle.literals.specs.InternalContent.{CopiedAs}
+use Rattle.reader.specs.declared.duplicates.KeptKeys.{KeptKeys}
 use Rattle.reader.specs.Syntax.{holds}
 use Rattle.reader.specs.Internal.Values.{bytes_at, KeyAt, SiblingKeys, duplicate}
 
@@ -41,7 +42,16 @@ pub record HaveKept (bytes ends : List ℕ) (n to : ℕ) : Type 0 where
 pub record IsKept (bytes ends : List ℕ) (n at end : ℕ) (r : Bool) : Type 0 where
   pub is : (ks : List (List ℕ)) → Kept bytes ends n at ks → r ≡ holds ks (bytes_at bytes at end)
 
--- the content of the key from a to e was written behind the first `at` bytes, which are as they were, and ends at r
-pub record KeyKept (sw : Switches) (s : List ℕ) (a e at : ℕ) (bytes out : List ℕ) (r : ℕ) : Type 0 where
-  pub before : take at out ≡ take at bytes
-  pub is : (w : List ℕ) → KeyAt sw s a e w → CopiedAs w at out r
+-- the same of what the code keeps
+abbrev pub KeptIn : KeptKeys → List (List ℕ) → Type 0
+KeptIn k ks = Kept k.bytes k.ends k.count k.at ks
+
+-- whether the content of the key from a to e is another than those that were kept, which it then follows; nothing if it has no room
+abbrev pub KeepIs : Switches → (s : List ℕ) (a e : ℕ) (k next : KeptKeys) → Rust.Option Bool → Type 0
+KeepIs sw s a e k next (Some true) = (ks : List (List ℕ)) → KeptIn k ks → (w : List ℕ) → KeyAt sw s a e w → (holds ks w ≡ false) × KeptIn next (ks ++ (w ∷ []))
+KeepIs sw s a e k next (Some false) = (ks : List (List ℕ)) → KeptIn k ks → (w : List ℕ) → KeyAt sw s a e w → holds ks w ≡ true
+KeepIs sw s a e k next None = Unit {0}
+
+-- the same as a record
+pub record Keeps (sw : Switches) (s : List ℕ) (a e : ℕ) (k next : KeptKeys) (r : Rust.Option Bool) : Type 0 where
+  pub is : KeepIs sw s a e k next r

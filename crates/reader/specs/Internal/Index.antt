@@ -1,10 +1,10 @@
 -- The index of an object's keys: a tree of tests on their contents, which leads a content to the only key so far that may have it.
 -- Nothing here has to be believed: it serves the search for duplicate keys alone.
 -- Assumes nothing.
-use Rattle.std.specs.Prelude.{ℕ, suc, ◌+◌, ◌*◌, ◌/◌, ◌%◌, ◌^◌, ◌<◌, ◌≤◌, ◌≡◌, Bool, true, false, cond, List, [], ◌∷◌, eqb, leb, length, get_or, take, drop}
+use Rattle.std.specs.Prelude.{ℕ, suc, ◌+◌, ◌*◌, ◌/◌, ◌%◌, ◌^◌, ◌<◌, ◌≤◌, ◌≡◌, Bool, true, false, cond, List, [], ◌∷◌, eqb, leb, length, get_or, take, drop, Some, None}
+use Rattle.std.specs.declared.option.Option as Rust
 use Rattle.text.specs.declared.switches.Switches.{Switches}
-use Rattle.reader.specs.declared.index.Lookup.{Lookup}
-use Rattle.reader.specs.declared.index.Lookup.TheVariants as L
+use Rattle.reader.specs.declared.index.Place.{Place}
 use Rattle.reader.specs.Reading.{max_nodes, word_of}
 use Rattle.reader.specs.Syntax.{holds}
 use Rattle.reader.specs.Internal.Values.{KeyAt}
@@ -29,13 +29,17 @@ pub record IsPrefixed (bytes : List ℕ) : Type 0 where
   pub short : is_short content ≡ true
   pub is : bytes ≡ prefixed content
 
--- a content stands behind its length at the front of `out`: r bytes, if it is short
-pub record ContentIn (w out : List ℕ) (r : ℕ) : Type 0 where
-  pub short : is_short w ≡ true → (r ≤ key_bytes) × (take r out ≡ prefixed w)
-  pub long : is_short w ≡ false → key_bytes < r
+-- how many bytes at the front of `out` are a content behind its length; nothing if it is not short
+abbrev pub ContentIs : (w out : List ℕ) → Rust.Option ℕ → Type 0
+ContentIs w out (Some r) = (is_short w ≡ true) × (r ≤ key_bytes) × (take r out ≡ prefixed w)
+ContentIs w out None = is_short w ≡ false
+
+-- the same as a record
+pub record ContentIn (w out : List ℕ) (r : Rust.Option ℕ) : Type 0 where
+  pub is : ContentIs w out r
 
 -- the content of the key from a to e
-pub record KeyWritten (sw : Switches) (s : List ℕ) (a e : ℕ) (out : List ℕ) (r : ℕ) : Type 0 where
+pub record KeyWritten (sw : Switches) (s : List ℕ) (a e : ℕ) (out : List ℕ) (r : Rust.Option ℕ) : Type 0 where
   pub is : (w : List ℕ) → KeyAt sw s a e w → ContentIn w out r
 
 -- how many bytes at the front of the first agree with those of the second, which is 0 behind its end
@@ -56,15 +60,6 @@ miss_of test s = (bit_at s (test / 2) + test % 2) % 2
 abbrev pub passes : (test : ℕ) → List ℕ → Bool
 passes test s = eqb (miss_of test s) 0
 
--- the node that was passed last, after one more
-unfoldable pub last_passed : (miss node next : ℕ) → ℕ
-last_passed miss node next = cond (eqb miss 0) next node
-
--- two bytes that differ do so in bit r
-pub record DiffersIn (own other r : ℕ) : Type 0 where
-  pub low : r < 8
-  pub is : (own ≡ other → ⊥) → own / 2 ^ r % 2 ≡ other / 2 ^ r % 2 → ⊥
-
 -- a test of byte i, which these bytes pass and those do not
 pub record Tells (test : ℕ) (s other : List ℕ) : Type 0 where
   pub own : passes test s ≡ true
@@ -72,7 +67,7 @@ pub record Tells (test : ℕ) (s other : List ℕ) : Type 0 where
 
 -- by one byte in which they differ
 pub record TellsBy (i own other test : ℕ) : Type 0 where
-  pub is : (own ≡ other → ⊥) → (s t : List ℕ) → get_or s i 0 ≡ own → get_or t i 0 ≡ other → Tells test s t
+  pub is : (s t : List ℕ) → get_or s i 0 ≡ own → get_or t i 0 ≡ other → Tells test s t
 
 -- ---- the tree
 
@@ -144,14 +139,15 @@ pub record HasIndex (sw : Switches) (s tab links tests : List ℕ) : Type 0 wher
 
 -- ---- what is asked of the tree
 
--- node y has a key
+-- node y has a key with a short content
 pub record HasKey (sw : Switches) (s tab : List ℕ) (y : ℕ) : Type 0 where
   pub content : List ℕ
   pub node : KeyNode sw s tab y content
+  pub short : is_short content ≡ true
 
--- the content of node y's key
+-- the content of node y's key, which is short
 pub record NodeWritten (sw : Switches) (s tab : List ℕ) (y : ℕ) (out : List ℕ) (r : ℕ) : Type 0 where
-  pub is : (w : List ℕ) → KeyNode sw s tab y w → ContentIn w out r
+  pub is : (w : List ℕ) → KeyNode sw s tab y w → ContentIn w out (Some r)
 
 -- a short content that is new: where it belongs in the tree, and a test that it passes and the only key that it could be confused with does not
 pub record NewAt (sw : Switches) (s tab links tests : List ℕ) (w : List ℕ) (cell test : ℕ) : Type 0 where
@@ -160,10 +156,10 @@ pub record NewAt (sw : Switches) (s tab links tests : List ℕ) (w : List ℕ) (
   pub own : passes test (prefixed w) ≡ true
   pub apart : (v : List ℕ) → KeyNode sw s tab at v → is_short v ≡ true → passes test (prefixed v) ≡ false
 
--- whether a short content is among ks, and if not, where it belongs
-abbrev pub LookupIs : Switches → (s tab links tests : List ℕ) (ks : List (List ℕ)) (w : List ℕ) → Lookup → Type 0
-LookupIs sw s tab links tests ks w L.Known = holds ks w ≡ true
-LookupIs sw s tab links tests ks w (L.New cell test) = (holds ks w ≡ false) × NewAt sw s tab links tests w cell test
+-- where a short content belongs that is not among ks; nothing if it is among them
+abbrev pub PlaceIs : Switches → (s tab links tests : List ℕ) (ks : List (List ℕ)) (w : List ℕ) → Rust.Option Place → Type 0
+PlaceIs sw s tab links tests ks w None = holds ks w ≡ true
+PlaceIs sw s tab links tests ks w (Some p) = (holds ks w ≡ false) × NewAt sw s tab links tests w p.cell p.test
 
-pub record LookedUp (sw : Switches) (s tab links tests : List ℕ) (bytes : List ℕ) (r : Lookup) : Type 0 where
-  pub is : (x : ℕ) (ks : List (List ℕ)) → Indexed sw s tab links tests x ks → (w : List ℕ) → is_short w ≡ true → bytes ≡ prefixed w → LookupIs sw s tab links tests ks w r
+pub record LookedUp (sw : Switches) (s tab links tests : List ℕ) (bytes : List ℕ) (r : Rust.Option Place) : Type 0 where
+  pub is : (x : ℕ) (ks : List (List ℕ)) → Indexed sw s tab links tests x ks → (w : List ℕ) → is_short w ≡ true → bytes ≡ prefixed w → PlaceIs sw s tab links tests ks w r

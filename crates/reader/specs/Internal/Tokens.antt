@@ -11,11 +11,14 @@ use Rattle.lexer.specs.Answer.{kind_of}
 use Rattle.reader.specs.declared.tree.Kind.TheVariants.{Object, Array, Tuple}
 use Rattle.text.specs.declared.span.Span as CS
 use Rattle.lexer.specs.declared.item.Token as CT
+use Rattle.reader.specs.declared.kinds.NodeKind.{NodeKind}
+use Rattle.reader.specs.declared.kinds.NodeKind.TheVariants as N
 use Rattle.reader.specs.declared.tree.Words.{Words}
 use Rattle.reader.specs.declared.tree.Begin.{Begin}
 use Rattle.std.specs.declared.option.Option as Rust
 use Rattle.reader.specs.declared.tree.Begin.TheVariants as B
-use Rattle.reader.specs.Tree.{Scalar, true_value, false_value, null_value, scalar_number, scalar_words}
+use Rattle.reader.specs.Tree as T
+use Rattle.reader.specs.Tree.{Scalar, true_value, false_value, null_value, scalar_words}
 use Rattle.reader.specs.Syntax.{Begins, begins, container, scalar, identifier, nothing, span_of, opens_with_capital}
 
 -- an item's form; a mark 0 if it is no token
@@ -47,13 +50,27 @@ IsToken sw s t = TokenAt sw s t.kind t.span.start t.span.stop
 abbrev pub begins_at : Switches → List ℕ → CS.Span → Begins
 begins_at sw s p = begins (span_of (token_at sw s p.start p.stop)) (form_at sw s p.start)
 
+-- a scalar's kind, as the code's enum
+unfoldable pub scalar_kind : Scalar → NodeKind
+scalar_kind (T.text token content) = N.Text
+scalar_kind (T.bytes token content) = N.Bytes
+scalar_kind (T.integer z) = N.Integer
+scalar_kind (T.decimal minus m p) = N.Decimal
+scalar_kind false_value = N.False
+scalar_kind true_value = N.True
+scalar_kind null_value = N.Null
+
 -- a scalar's own words, as the code carries them
 unfoldable pub leaf_of : Scalar → Words
-leaf_of s = record { kind = scalar_number s; low = get_or (scalar_words s) 0 0; high = get_or (scalar_words s) 1 0; extra = get_or (scalar_words s) 2 0 }
+leaf_of s = record { kind = scalar_kind s; low = get_or (scalar_words s) 0 0; high = get_or (scalar_words s) 1 0; extra = get_or (scalar_words s) 2 0 }
 
 -- the words of a value that its kind alone says
-abbrev pub plain_words : (kind : ℕ) → Words
+abbrev pub plain_words : NodeKind → Words
 plain_words kind = record { kind = kind; low = 0; high = 0; extra = 0 }
+
+-- a string's words: its token's span, and the length of its content
+abbrev pub string_words : NodeKind → CS.Span → (length : ℕ) → Words
+string_words kind span length = record { kind = kind; low = span.start; high = span.stop; extra = length }
 
 -- the token from `start` to `stop` is a scalar with these words
 pub record LeafIs (sw : Switches) (s : List ℕ) (start stop : ℕ) (leaf : Words) : Type 0 where

@@ -26,7 +26,8 @@ use Rattle.reader.specs.declared.items.Item.TheVariants as I
 use Rattle.std.specs.declared.option.Option as Rust
 use Rattle.reader.specs.declared.values.Progress.{Progress}
 use Rattle.std.specs.declared.result.Result.{Result}
-use Rattle.reader.specs.Tree.{Span, Tree, branch, Forest, size, head_of, rows, kind_number, node_words}
+use Rattle.reader.specs.Tree.{Span, Tree, branch, Forest, size, head_of, rows, node_words}
+use Rattle.reader.specs.Kinds.{number_of_kind, container_kind}
 use Rattle.reader.specs.Reading.{max_text, max_nodes, word_of}
 use Rattle.reader.specs.Syntax.{Label, label, Frame, frame, Slot, first, after, more, value, inside, Config, config, Begins, begins, span_of, is_object, head_by, ended, value_step, Outcome, refused, after_step, run, holds}
 use Rattle.reader.specs.Internal.Tokens.{form_at, token_at, TokenAt}
@@ -83,11 +84,11 @@ row_words kind parent p stop next low high extra =
 
 -- the row of a value that was due, with its own words
 abbrev pub row_of : Due → Words → (stop next : ℕ) → List ℕ
-row_of due w stop next = row_words w.kind due.spot.parent due.label stop next w.low w.high w.extra
+row_of due w stop next = row_words (number_of_kind w.kind) due.spot.parent due.label stop next w.low w.high w.extra
 
 -- a container's own words
 abbrev pub branch_words : Kind → (children : ℕ) → Words
-branch_words kind children = record { kind = kind_number kind; low = children; high = 0; extra = 0 }
+branch_words kind children = record { kind = container_kind kind; low = children; high = 0; extra = 0 }
 
 -- room for the row of a value that was due, and its numbers fit into words
 pub record RowRoom (tab : List ℕ) (due : Due) (stop next : ℕ) : Type 0 where
@@ -150,8 +151,8 @@ pub record KeyHere (sw : Switches) (s : List ℕ) (a e : ℕ) : Type 0 where
   pub content : List ℕ
   pub key : KeyAt sw s a e content
 
--- the content of the key from a to e was written from `at` on, and ends at r
-pub record KeyCopied (sw : Switches) (s : List ℕ) (a e at : ℕ) (out : List ℕ) (r : ℕ) : Type 0 where
+-- where the content of the key from a to e ends, which was written from `at` on; or that it has no room
+pub record KeyCopied (sw : Switches) (s : List ℕ) (a e at : ℕ) (out : List ℕ) (r : Rust.Option ℕ) : Type 0 where
   pub is : (w : List ℕ) → KeyAt sw s a e w → CopiedAs w at out r
 
 -- whether the key from a to e is among those of the nodes from x to m

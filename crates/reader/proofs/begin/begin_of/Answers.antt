@@ -19,33 +19,25 @@ pub slice_bounds-word_begin-end : goal.slice_bounds-word_begin-end
 slice_bounds-word_begin-end c =
     let o = c.requires.token_here.token.ordered in let i = c.requires.token_here.token.inside in omega arith
 
-pub overflow_cast-result : goal.overflow_cast-result
-overflow_cast-result c =
-    let o = c.requires.token_here.token.ordered in let i = c.requires.token_here.token.inside in omega (arith, c.requires.text_len_bound)
+pub string_leaf-requires : goal.string_leaf-requires
+string_leaf-requires c =
+    let o = c.requires.token_here.token.ordered in
+    let i = c.requires.token_here.token.inside in
+    let l = c.requires.text_len_bound in
+    let h = text_fits_law c.requires.token_here.sw c.args.text.now c.args.token.span.start c.args.token.span.stop c.args.token.kind c.requires.token_here.token c.in-Text.n c.in-Text.is in
+    (omega arith, omega arith, omega arith)
 
-pub overflow_cast-result-in-Text : goal.overflow_cast-result-in-Text
-overflow_cast-result-in-Text c =
-    let o = c.requires.token_here.token.ordered in let i = c.requires.token_here.token.inside in omega (arith, c.requires.text_len_bound)
-
-pub overflow_cast-result-in-Text-2 : goal.overflow_cast-result-in-Text-2
-overflow_cast-result-in-Text-2 c =
-    let h = text_fits_law c.requires.token_here.sw c.args.text.now c.args.token.span.start c.args.token.span.stop c.args.token.kind c.requires.token_here.token c.in-Text.n c.in-Text.is in omega arith
-
-pub overflow_cast-result-in-Bytes : goal.overflow_cast-result-in-Bytes
-overflow_cast-result-in-Bytes c =
-    let o = c.requires.token_here.token.ordered in let i = c.requires.token_here.token.inside in omega (arith, c.requires.text_len_bound)
-
-pub overflow_cast-result-in-Bytes-2 : goal.overflow_cast-result-in-Bytes-2
-overflow_cast-result-in-Bytes-2 c =
-    let o = c.requires.token_here.token.ordered in let i = c.requires.token_here.token.inside in omega (arith, c.requires.text_len_bound)
-
-pub overflow_cast-result-in-Bytes-3 : goal.overflow_cast-result-in-Bytes-3
-overflow_cast-result-in-Bytes-3 c =
-    let h = bytes_fits c.requires.token_here.sw c.args.text.now c.args.token.span.start c.args.token.span.stop c.args.token.kind c.requires.token_here.token c.in-Bytes.n c.in-Bytes.is in omega arith
+pub string_leaf-requires-in-Bytes : goal.string_leaf-requires-in-Bytes
+string_leaf-requires-in-Bytes c =
+    let o = c.requires.token_here.token.ordered in
+    let i = c.requires.token_here.token.inside in
+    let l = c.requires.text_len_bound in
+    let h = bytes_fits c.requires.token_here.sw c.args.text.now c.args.token.span.start c.args.token.span.stop c.args.token.kind c.requires.token_here.token c.in-Bytes.n c.in-Bytes.is in
+    (omega arith, omega arith, omega arith)
 
 pub decimal_leaf-requires : goal.decimal_leaf-requires
 decimal_leaf-requires c =
-    subst (λ (y : ℤ). DecimalFits c.in-Decimal.m y) (sym (to_z-of_z {w = w64} {z = c.in-Decimal.p} (record { sfits = c.in-Decimal.known_told-in-Decimal-1-own.given.1.1.0.1 })))
+    subst (λ (y : ℤ). DecimalFits c.in-Decimal.m y) (sym (to_z-of_z {w = w64} {z = c.in-Decimal.p} (record { sfits = omega arith })))
     (decimal_fits c.requires.token_here.sw c.args.text.now c.args.token.span.start c.args.token.span.stop c.args.token.kind c.requires.token_here.token c.in-Decimal.minus c.in-Decimal.m c.in-Decimal.p c.in-Decimal.is)
 
 pub returns-in-Mark : goal.returns-in-Mark
@@ -58,22 +50,22 @@ returns-in-Word c =
 
 pub returns-in-Text : goal.returns-in-Text
 returns-in-Text c =
-    record { is = λ sw h. text_begun sw c.args.text.now c.args.token.span.start c.args.token.span.stop c.args.token.kind h c.in-Text.n c.in-Text.is }
+    rw c.string_leaf.ensures (record { is = λ sw h. text_begun sw c.args.text.now c.args.token.span.start c.args.token.span.stop c.args.token.kind h c.in-Text.n c.in-Text.is })
 
 pub returns-in-Bytes : goal.returns-in-Bytes
 returns-in-Bytes c =
-    record { is = λ sw h. bytes_begun sw c.args.text.now c.args.token.span.start c.args.token.span.stop c.args.token.kind h c.in-Bytes.n c.in-Bytes.is }
+    rw c.string_leaf-in-Bytes.ensures (record { is = λ sw h. bytes_begun sw c.args.text.now c.args.token.span.start c.args.token.span.stop c.args.token.kind h c.in-Bytes.n c.in-Bytes.is })
 
 pub returns-in-Integer : goal.returns-in-Integer
 returns-in-Integer c =
     record {
       is = λ sw h. integer_begun sw c.args.text.now c.args.token.span.start c.args.token.span.stop c.args.token.kind h c.in-Integer.value c.integer_leaf.result c.in-Integer.is
-          (c.integer_leaf.ensures ∙ ap (λ (y : ℤ). leaf_of (integer y)) (to_z-of_z {w = w64} {z = c.in-Integer.value} (record { sfits = c.in-Integer.known_told-in-Integer-1-own.given.0.1 })));
+          (c.integer_leaf.ensures ∙ ap (λ (y : ℤ). leaf_of (integer y)) (to_z-of_z {w = w64} {z = c.in-Integer.value} (record { sfits = omega arith })));
     }
 
 pub returns-in-Decimal : goal.returns-in-Decimal
 returns-in-Decimal c =
     record {
       is = λ sw h. decimal_begun sw c.args.text.now c.args.token.span.start c.args.token.span.stop c.args.token.kind h c.in-Decimal.minus c.in-Decimal.m c.in-Decimal.p c.decimal_leaf.result c.in-Decimal.is
-          (c.decimal_leaf.ensures ∙ ap (λ (y : ℤ). leaf_of (decimal c.in-Decimal.minus c.in-Decimal.m y)) (to_z-of_z {w = w64} {z = c.in-Decimal.p} (record { sfits = c.in-Decimal.known_told-in-Decimal-1-own.given.1.1.0.1 })));
+          (c.decimal_leaf.ensures ∙ ap (λ (y : ℤ). leaf_of (decimal c.in-Decimal.minus c.in-Decimal.m y)) (to_z-of_z {w = w64} {z = c.in-Decimal.p} (record { sfits = omega arith })));
     }

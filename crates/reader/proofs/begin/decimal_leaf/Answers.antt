@@ -1,16 +1,17 @@
-use mathlib.Core.Path.{ap, ◌∙◌}
+use mathlib.Core.Path.{◌≡◌, ap, ◌∙◌}
+use mathlib.Core.Bool.{cond}
 use mir.Facts.{to_z-of_z}
 use Rattle.reader.specs.Tree.{plus1000}
-use Rattle.reader.proofs.BeginLaws.{minus_words, plain_words_law}
+use Rattle.reader.proofs.BeginLaws.{decimal_words}
 use Rattle.reader.proofs.begin.decimal_leaf.Goals as goal
+use Rattle.reader.proofs.begin.decimal_leaf.Goals.{then-minus, else-minus}
 
-pub power_word-power-requires : goal.power_word-power-requires
-power_word-power-requires c = rw (to_z-of_z c.ranges.p) (c.requires.least, c.requires.greatest)
-
-pub returns-then-minus : goal.returns-then-minus
-returns-then-minus c =
-    minus_words c.args.minus c.args.m c.args.p c.power_word-power.result (c.power_word-power.ensures ∙ ap plus1000 (to_z-of_z c.ranges.p)) c.if-minus.true
+pub power_word-requires : goal.power_word-requires
+power_word-requires c = rw (to_z-of_z c.ranges.p) (c.requires.least, c.requires.greatest)
 
 pub returns : goal.returns
 returns c =
-    plain_words_law c.args.minus c.args.m c.args.p c.power_word-power.result (c.power_word-power.ensures ∙ ap plus1000 (to_z-of_z c.ranges.p)) c.if-minus.false
+    let s : c.if-minus.sign ≡ cond c.args.minus 2147483648 0 =
+    elim c.if-minus.branch [ then-minus w ↦ rw w.if-minus.true w.sign-is | else-minus w ↦ rw w.if-minus.false w.sign-is ]
+    in
+    decimal_words c.args.minus c.args.m c.args.p _ _ s (c.power_word.ensures ∙ ap plus1000 (to_z-of_z c.ranges.p))

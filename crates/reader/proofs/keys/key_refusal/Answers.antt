@@ -1,11 +1,11 @@
 use Rattle.reader.proofs.DuplicateLaws.{key_found, key_new}
 use Rattle.reader.proofs.keys.key_refusal.Goals as goal
 
-pub find_key-requires : goal.find_key-requires
-find_key-requires c = record { have_keys = c.requires.have_keys; key_here = c.requires.key_here }
+pub has_before-requires : goal.has_before-requires
+has_before-requires c = record { have_keys = c.args.keys.now.keys; key_here = c.requires }
 
-pub returns-then-find_key : goal.returns-then-find_key
-returns-then-find_key c = key_found c.if-find_key.true c.find_key.ensures
+pub returns-then-has_before : goal.returns-then-has_before
+returns-then-has_before c = key_found c.if-has_before.true c.has_before.ensures
 
 pub returns : goal.returns
-returns c = key_new c.if-find_key.false c.find_key.ensures
+returns c = key_new c.if-has_before.false c.has_before.ensures

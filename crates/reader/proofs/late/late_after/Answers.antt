@@ -1,4 +1,6 @@
-use mathlib.Core.Path.{refl, ap}
+use mathlib.Core.Path.{◌≡◌, refl, ap}
+use mathlib.Core.Bool.{false}
+use mathlib.Core.Logic.{inl, inr}
 use Rattle.reader.specs.declared.tree.Kind.TheVariants.{Array, Tuple}
 use Rattle.reader.specs.Syntax.{is_object}
 use Rattle.reader.proofs.ItemRun.{no_object}
@@ -9,7 +11,7 @@ pub find_duplicate-requires : goal.find_duplicate-requires
 find_duplicate-requires c = c.requires.keys
 
 pub key_refusal-requires : goal.key_refusal-requires
-key_refusal-requires c = record { have_keys = c.requires.keys.siblings (ap is_object c.in-Object.is); key_here = c.requires.key_in.here (ap is_object c.in-Object.is) }
+key_refusal-requires c = c.requires.key_in.here (ap is_object c.in-Object.is)
 
 pub returns-in-Some : goal.returns-in-Some
 returns-in-Some c = late_after_at c.find_duplicate.ensures c.in-Some.is
@@ -19,8 +21,5 @@ returns-in-None c = late_after_key c.find_duplicate.ensures c.in-None.is c.in-Ob
 
 pub returns-in-Array : goal.returns-in-Array
 returns-in-Array c =
-    late_after_other (first_other (no_object c.args.kind Array c.in-Array.is refl)) refl (no_object c.args.kind Array c.in-Array.is refl)
-
-pub returns-in-Tuple : goal.returns-in-Tuple
-returns-in-Tuple c =
-    late_after_other (first_other (no_object c.args.kind Tuple c.in-Tuple.is refl)) refl (no_object c.args.kind Tuple c.in-Tuple.is refl)
+    let n : is_object c.args.kind ≡ false = elim c.in-Array.is [ inl e ↦ no_object c.args.kind Array e refl | inr e ↦ no_object c.args.kind Tuple e refl ] in
+    late_after_other (first_other n) refl n

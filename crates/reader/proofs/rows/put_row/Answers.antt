@@ -51,4 +51,4 @@ pub shape_of-table : goal.shape_of-table
 shape_of-table c = simp length-set
 
 pub returns : goal.returns
-returns c = simp (nine, ten, eleven, towards_suc)
+returns c = rw c.from.ensures (simp (nine, ten, eleven, towards_suc))

@@ -1,0 +1,10 @@
+use Rattle.reader.proofs.SiblingLaws.{Over}
+use Rattle.reader.proofs.FewRun.{Few}
+use Rattle.reader.proofs.keys.ObjectKeys.duplicate_by_walk.Given as goal
+
+abbrev pub invariant-loop-child : goal.invariant-loop-child
+invariant-loop-child l =
+    (goal.iterator-loop-child).can_next l.child-iterator
+    × (goal.iterator-loop-child).is_finite l.child-iterator
+    × Over l.self.table.now l.self.next l.child-iterator
+    × Few l.self.sw l.self.text.now l.self.table.now l.kept l.self.first l.child-iterator.next l.self.next
