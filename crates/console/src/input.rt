@@ -1,5 +1,6 @@
 // The text's bytes, from a descriptor or a file; and the program's arguments.
 ghost use Rattle.std.specs.Prelude.{MatchOption};
+ghost use Rattle.std.specs.Result.{MatchResult};
 ghost use Rattle.io.specs.Counts.{IsPrefixLen};
 
 use std::env::FillError;
@@ -10,6 +11,15 @@ use std::{fs, str};
 // Room for a text. It has at most 65,536 bytes: one byte more shows that it is too long, and what comes after that byte isn't
 // read.
 pub const TEXT_ROOM: usize = 65537;
+
+// A read that failed: how many bytes had come before.
+#[derive(Clone, Copy, Debug, PartialEq, Eq)]
+pub struct ReadFailed {
+    pub count: usize,
+}
+
+// The same of what could not be opened, or has no name: nothing had come.
+const UNREAD: ReadFailed = ReadFailed { count: 0 };
 
 // What failed, as the caller names it, and why, as a line on standard error. Where it can't be written, there is nowhere left to
 // say so.
@@ -47,43 +57,43 @@ pub fn argument(rt: &HostRuntime, i: usize, what: &[u8], buf: &mut [u8]) -> Opti
 }
 
 // Reads until buf is full or the input ends: how many bytes came. A read that fails is told from the end of the input, so that an
-// unreadable file isn't taken for an empty text: the answer is `None`, and it is said on standard error, where `name` is what was read.
+// unreadable file isn't taken for an empty text: the answer is an `Err`, and it is said on standard error, where `name` is what was read.
 pub fn fill_from<R: Read>(
     rt: &HostRuntime,
     from: &mut R,
     name: &[u8],
     buf: &mut [u8],
-) -> Option<usize>
-    ensures { MatchOption result (Unit {0}) (λ n. IsPrefixLen n buf.new) }
+) -> Result<usize, ReadFailed>
+    ensures { MatchResult result (λ n. IsPrefixLen n buf.new) (λ f. IsPrefixLen f.count buf.new) }
 {
     let mut n = 0;
     // kept: how far a turn goes is what `read` says, and the library's methods that read to the end fill a Vec: memory is fixed here.
     while n < buf.len() {
         match from.read(&mut buf[n..]) {
-            Ok(0) => return Some(n),
+            Ok(0) => return Ok(n),
             Ok(more) => n += more,
             Err(error) => {
                 fail(rt, name, error);
-                return None;
+                return Err(ReadFailed { count: n });
             }
         }
     }
-    Some(n)
+    Ok(n)
 }
 
 // The same from the file of this name. A file that can't be opened counts as a read that failed.
-fn fill_file(rt: &HostRuntime, name: &[u8], buf: &mut [u8]) -> Option<usize>
-    ensures { MatchOption result (Unit {0}) (λ n. IsPrefixLen n buf.new) }
+fn fill_file(rt: &HostRuntime, name: &[u8], buf: &mut [u8]) -> Result<usize, ReadFailed>
+    ensures { MatchResult result (λ n. IsPrefixLen n buf.new) (λ f. IsPrefixLen f.count buf.new) }
 {
     let Ok(path) = str::from_utf8(name) else {
         fail(rt, name, Error::from(ErrorKind::InvalidFilename));
-        return None;
+        return Err(UNREAD);
     };
     match fs::open(rt, path) {
         Ok(mut file) => fill_from(rt, &mut file, name, buf),
         Err(error) => {
             fail(rt, name, error);
-            None
+            Err(UNREAD)
         }
     }
 }
@@ -92,11 +102,13 @@ fn fill_file(rt: &HostRuntime, name: &[u8], buf: &mut [u8]) -> Option<usize>
 const NAME_ROOM: usize = 4096;
 
 // The same from the file that argument `i` names.
-pub fn fill_named(rt: &HostRuntime, i: usize, buf: &mut [u8]) -> Option<usize>
-    ensures { MatchOption result (Unit {0}) (λ n. IsPrefixLen n buf.new) }
+pub fn fill_named(rt: &HostRuntime, i: usize, buf: &mut [u8]) -> Result<usize, ReadFailed>
+    ensures { MatchResult result (λ n. IsPrefixLen n buf.new) (λ f. IsPrefixLen f.count buf.new) }
 {
     let mut name = [0u8; NAME_ROOM];
-    let length = argument(rt, i, b"the file's name", &mut name)?;
+    let Some(length) = argument(rt, i, b"the file's name", &mut name) else {
+        return Err(UNREAD);
+    };
     fill_file(rt, &name[..length], buf)
 }
 
@@ -109,7 +121,7 @@ pub fn with_file<F: FnOnce(&HostRuntime, &[u8])>(rt: &HostRuntime, usage: &[u8],
         return;
     }
     let mut buffer = [0u8; TEXT_ROOM];
-    if let Some(n) = fill_named(rt, 1, &mut buffer) {
+    if let Ok(n) = fill_named(rt, 1, &mut buffer) {
         run(rt, &buffer[..n]);
     }
 }

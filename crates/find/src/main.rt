@@ -27,7 +27,7 @@ fn main(rt: HostRuntime) {
         return;
     }
     let mut buffer = [0u8; input::TEXT_ROOM];
-    if let Some(n) = input::fill_named(&rt, 1, &mut buffer) {
+    if let Ok(n) = input::fill_named(&rt, 1, &mut buffer) {
         ask(&rt, &buffer[..n]);
     }
 }

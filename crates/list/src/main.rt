@@ -7,14 +7,15 @@
 
 mod listing;
 
-ghost use Rattle.std.specs.Prelude.{MatchOption};
+ghost use Rattle.std.specs.Result.{MatchResult};
 ghost use Rattle.io.specs.Counts.{IsPrefixLen};
 
 use console::input;
+use console::input::ReadFailed;
 
 // The text's bytes.
-fn fill_text(rt: &HostRuntime, buf: &mut [u8]) -> Option<usize>
-    ensures { MatchOption result (Unit {0}) (λ n. IsPrefixLen n buf.new) }
+fn fill_text(rt: &HostRuntime, buf: &mut [u8]) -> Result<usize, ReadFailed>
+    ensures { MatchResult result (λ n. IsPrefixLen n buf.new) (λ f. IsPrefixLen f.count buf.new) }
 {
     if input::has_argument(rt, 1) {
         input::fill_named(rt, 1, buf)
@@ -29,7 +30,7 @@ fn main(rt: HostRuntime) {
         return;
     }
     let mut buffer = [0u8; input::TEXT_ROOM];
-    if let Some(n) = fill_text(&rt, &mut buffer) {
+    if let Ok(n) = fill_text(&rt, &mut buffer) {
         listing::list(&rt, &buffer[..n]);
     }
 }
