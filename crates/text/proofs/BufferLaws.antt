@@ -1,13 +1,14 @@
 -- Buffers written over: byte by byte, and one part after another.
 -- Assumes nothing.
 use mathlib.Core.Path.{◌≡◌, refl, sym, ap, ap₂, ◌∙◌}
-use Prim.Native.Nat.{ℕ, ◌+◌, ◌≤◌}
+use Prim.Native.Nat.{ℕ, ◌+◌, ◌<◌, ◌≤◌}
 use native.Mathlib.Omega.{arith}
+use native.Mathlib.Numerals.{add-one}
 use mathlib.Core.List.{List, ◌++◌, append_assoc}
 use borrow.Rule.Slice.PartMut.{put_mid}
 use Rattle.std.proofs.lemmas.Slice.{put_mid-paste}
-use lib.ListN.{length, take, drop, length-append, length-drop}
-use lib.Seq.{take-length, take_at, drop_at, drop-drop, length-take-le}
+use lib.ListN.{length, take, drop, get_or, set, length-append, length-drop}
+use lib.Seq.{paste, paste-suc, take-length, take_at, drop_at, drop-drop, length-take-le}
 use Rattle.text.specs.Buffers.{overwritten}
 
 pub length_overwritten : (k : ℕ) (x buf : List ℕ) → k + length x ≤ length buf → length (overwritten k x buf) ≡ length buf
@@ -25,6 +26,19 @@ take_overwritten k x buf h =
     let c = length-take-le k buf (omega arith) in
     ap (take (k + length x)) (sym (append_assoc (take k buf) x (drop (k + length x) buf)))
     ∙ take_at (take k buf ++ x) (drop (k + length x) buf) (k + length x) (length-append (take k buf) x ∙ ap (λ (n : ℕ). n + length x) c)
+
+-- ---- a loop that writes `s` over `d` from `at` on, a byte a turn: after n turns it is `paste d at s n`
+
+pub paste_next : (d : List ℕ) (at : ℕ) (s : List ℕ) (j : ℕ) → at + j < length d → j < length s
+    → set (paste d at s j) (at + j) (get_or s j 0) ≡ paste d at s (j + 1)
+paste_next d at s j h k = paste-suc d at s j 0 h k ∙ ap (paste d at s) (sym (add-one j))
+
+pub paste_whole : (d : List ℕ) (at : ℕ) (s : List ℕ) (n : ℕ) → n ≡ length s → paste d at s n ≡ overwritten at s d
+unfolding overwritten
+paste_whole d at s n e =
+    ap (paste d at s) e
+    ∙ ap (λ (l : List ℕ). take at d ++ l ++ drop (at + length s) d) (take-length s)
+    ∙ append_assoc (take at d) s (drop (at + length s) d)
 
 -- ---- `s` copied to the part of `d` from `at` on
 
