@@ -58,8 +58,7 @@ pub enum Next {
 
 // ---- comments
 
-// A slash at `at`: a comment, or malformed. Inlined, its loops would share their registers with all that `item_by` does.
-#[inline(never)]
+// A slash at `at`: a comment, or malformed.
 #[tactic(auto, using(crate::proofs::PlaceLaws::line_found, crate::proofs::PlaceLaws::block_found, crate::proofs::PlaceLaws::slash_found))]
 fn comment_item(text: &[u8], at: usize) -> Result<Found, Reason>
     requires { at < length text.now }
@@ -157,7 +156,9 @@ impl<'a> Scanner<'a> {
         }
     }
 
-    // A small letter or a quote at `at`: a string where one opens, else a word.
+    // A small letter or a quote at `at`: a string where one opens, else a word. Inlined, its loops and those of comments would share their
+    // registers with all that `item_by` does.
+    #[inline(never)]
     #[tactic(auto, using(crate::proofs::OpeningLaws::opened_string, crate::proofs::OpeningLaws::opened_broken, crate::proofs::OpeningLaws::opened_word))]
     fn opened_item(&self, at: usize) -> Result<Found, Reason>
         requires { at < length self.now.text.now }
