@@ -1,5 +1,6 @@
 -- The laws of the lexer's definitions, for the proofs of this crate and of the crates above it.
 pub mod ClosingLaws
+pub mod RunLaws
 pub mod ItemCases
 pub mod TokenLaws
 pub mod OpeningLaws

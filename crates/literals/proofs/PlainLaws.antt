@@ -19,15 +19,15 @@ use Rattle.std.proofs.lemmas.Grind.{common_steps}
 -- ---- what the decoder does with them
 
 module _ (sw : Switches) (b : ℕ) (B : PlainByte b) where
-  quoted_plain : decode_step sw Plain b ≡ gives Plain (One b)
+  pub quoted_plain : decode_step sw Plain b ≡ gives Plain (One b)
   unfolding decode_step plain_step quoted_refuses
   quoted_plain = grind (arith, common_steps)
 
-  raw_plain : decode_step sw Verbatim b ≡ gives Verbatim (One b)
+  pub raw_plain : decode_step sw Verbatim b ≡ gives Verbatim (One b)
   unfolding decode_step raw_step raw_refuses
   raw_plain = grind (arith, common_steps)
 
-  word_plain : decode_step sw Letters b ≡ gives Letters (One b)
+  pub word_plain : decode_step sw Letters b ≡ gives Letters (One b)
   unfolding decode_step
   word_plain = refl
 

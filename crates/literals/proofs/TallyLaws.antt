@@ -185,7 +185,7 @@ module _ {sw : Switches} {text : Bool} {first : Decoder} {s : List ℕ} {st : De
     unfolding tally feed
     ends e = at_end_law true e ∙ ap (λ (k : ℕ). cond (not text || is_whole u) (Some k) None) none_left
 
-    tally_cut : may_end st ≡ false → measured (content_of sw text body s) ≡ None
+    pub tally_cut : may_end st ≡ false → measured (content_of sw text body s) ≡ None
     unfolding tally
     tally_cut e = at_end_law false e
 

@@ -164,7 +164,7 @@ pub record ElementWalk (i : ℕ) (table : List ℕ) (n left x : ℕ) : Type 0 wh
   pub of : (t : Tree) → Node table n t → Walk (λ y f. nth left y f ≡ element i n t) table n x
 
 module _ (i : ℕ) (table : List ℕ) (n : ℕ) where
-  element_start : ElementWalk i table n i (n + 1)
+  pub element_start : ElementWalk i table n i (n + 1)
   unfolding element
   element_start =
       record { of = λ t N. walk_start (λ y f. nth i y f ≡ element i n t) table n t N (ap (λ (m : ℕ). nth i m (children_of t)) (add-one n)) }
@@ -183,7 +183,7 @@ module _ (i : ℕ) (table : List ℕ) (n : ℕ) where
   element_at : (left x : ℕ) (s t : Children) → ElementWalk i table n left s.next → Gave table n x s t → ElementWalk i table n left x
   element_at left x s t W G = subst (ElementWalk i table n left) G.at W
 
-  element_hit : (left x : ℕ) (s t : Children) → ElementWalk i table n left s.next → Gave table n x s t → left ≡ 0 → ElementIs i table n (Some x)
+  pub element_hit : (left x : ℕ) (s t : Children) → ElementWalk i table n left s.next → Gave table n x s t → left ≡ 0 → ElementIs i table n (Some x)
   element_hit left x s t W G z = record { is = λ v N. hit_by v left x (element_here left x s.end (element_at left x s t W G) G.ends G.before v N) z }
 
   on_by_law : (t : Tree) (left x y : ℕ) → ElementHere t left x → (left ≡ 0 → ⊥) → y ≡ word_of table x 8 → Walk (λ z f. nth (left - 1) z f ≡ element i n t) table n y
@@ -194,7 +194,7 @@ module _ (i : ℕ) (table : List ℕ) (n : ℕ) where
       subst (λ (k : ℕ). Walk (λ z f. nth k z f ≡ element i n t) table n y) q
       (walk_next (λ z f. nth (suc left) z f ≡ element i n t) (λ z f. nth left z f ≡ element i n t) table n x y H g H.so)
 
-  element_on : (left x : ℕ) (s t : Children) → ElementWalk i table n left s.next → Gave table n x s t → (left ≡ 0 → ⊥) → ElementWalk i table n (left - 1) t.next
+  pub element_on : (left x : ℕ) (s t : Children) → ElementWalk i table n left s.next → Gave table n x s t → (left ≡ 0 → ⊥) → ElementWalk i table n (left - 1) t.next
   element_on left x s t W G z =
       record { of = λ v N. on_by_law v left x t.next (element_here left x s.end (element_at left x s t W G) G.ends G.before v N) z G.on }
 
@@ -203,7 +203,7 @@ module _ (i : ℕ) (table : List ℕ) (n : ℕ) where
   none_by t zero x d = ap childAnswer d
   none_by t (suc left) x d = ap childAnswer d
 
-  element_end : (left : ℕ) (s : Children) → ElementWalk i table n left s.next → WalksOver table n s → s.end ≤ s.next → ElementIs i table n None
+  pub element_end : (left : ℕ) (s : Children) → ElementWalk i table n left s.next → WalksOver table n s → s.end ≤ s.next → ElementIs i table n None
   element_end left s W O h =
       let e = O.end_is in
       record { is = λ t N. none_by t left s.next (walk_done (λ y f. nth left y f ≡ element i n t) table n s.next (W.of t N) (omega arith)) }

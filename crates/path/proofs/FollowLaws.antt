@@ -56,7 +56,7 @@ element_past i n (leaf h s) l = nth_past i (suc n) nil (omega arith)
 element_past i n (branch h k f) l = nth_past i (suc n) f (omega arith)
 
 -- a node's size by its word 8
-node_size : (table : List ℕ) (n end : ℕ) (t : Tree) → Node table n t → end ≡ word_of table n 8 → end ≡ n + size t
+pub node_size : (table : List ℕ) (n end : ℕ) (t : Tree) → Node table n t → end ≡ word_of table n 8 → end ≡ n + size t
 node_size table n end t N e = e ∙ word_next table n t N
 
 -- the nodes of a value end after its own, and within the table
@@ -176,6 +176,10 @@ module _ (sw : Switches) (text step table : List ℕ) (n : ℕ) (r : Rust.Option
         is = g.1;
         node = child_stands table n t (numbered m g.0) N (child_among sw text step n t (numbered m g.0) g.1);
       }
+
+  -- where a step has led to, a value stands
+  pub gone_stands : (m : ℕ) → r ≡ Some m → Stands table n → Stands table m
+  gone_stands m e S = let G = gone m e S.value S.node in record { value = G.value; node = G.node }
 
   pub no_child : r ≡ None → (t : Tree) → Node table n t → child sw text n t step ≡ none
   no_child e t N = answer_nothing (child sw text n t step) (sym (K.is t N) ∙ e)

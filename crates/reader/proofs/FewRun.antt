@@ -112,7 +112,7 @@ search_start {bytes} {ends} {n} {at} {end} H =
     }
 
 module _ {bytes ends : List ℕ} {from i n at end : ℕ} {own : List ℕ} (S : Search bytes ends from i n at end own) where
-  search_row : i < n → (v : List ℕ) × KeptAt bytes ends from i n at v
+  pub search_row : i < n → (v : List ℕ) × KeptAt bytes ends from i n at v
   search_row h = by S.rest S.kept
     where
       by : (ks : List (List ℕ)) → KeptFrom bytes ends from i n at ks → (v : List ℕ) × KeptAt bytes ends from i n at v
@@ -209,7 +209,7 @@ pub few_start : {sw : Switches} {s tab : List ℕ} (bytes ends : List ℕ) {firs
 few_start {sw} {s} {tab} bytes ends {first} {m} H =
     record { seen = []; past = past_start sw s tab first m H; kept = record { all = (refl, refl); room = omega arith; inside = omega arith } }
 
-past_of : {sw : Switches} {s tab : List ℕ} {first x m : ℕ} (T : Walked sw s tab first x m) → Past sw s tab first x m T.seen
+pub past_of : {sw : Switches} {s tab : List ℕ} {first x m : ℕ} (T : Walked sw s tab first x m) → Past sw s tab first x m T.seen
 past_of T = record { rest = T.rest; past = T.past; siblings = T.siblings; same_as = T.same_as }
 
 module _ {sw : Switches} {s tab : List ℕ} {first z m : ℕ} (F : Walked sw s tab first z m) where

@@ -59,7 +59,7 @@ module _ {sw : Switches} {s tab links tests : List ℕ} {first z m : ℕ} (F : G
     pub grown_keys : HaveKeys sw s tab first x
     grown_keys = past_have_keys sw s tab first m x G.seen G.past
 
-    grown_next : {y : ℕ} → y ≡ word_of tab x 8 → (x < y) × (y ≤ m)
+    pub grown_next : {y : ℕ} → y ≡ word_of tab x 8 → (x < y) × (y ≤ m)
     grown_next e = let L = (past_row sw s tab first m x G.seen G.past here).1 in (omega (arith, L.later), omega (arith, L.below))
 
     module _ {a e : ℕ} (p : a ≡ word_of tab x 4) (q : e ≡ word_of tab x 5) where
